@@ -1,0 +1,8 @@
+pub mod Least
+pub mod Literals
+pub mod Prefix
+pub mod Trim
+pub mod Why
+pub mod Records
+pub mod Terms
+mod Positions

@@ -1,0 +1,6 @@
+pub mod Choices
+pub mod Terms
+pub mod Records
+pub mod Laws
+pub mod Texts
+pub mod Positions
