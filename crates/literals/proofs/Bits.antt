@@ -8,7 +8,8 @@ use native.Mathlib.Numerals.{one-add}
 use native.Mathlib.Omega.{arith}
 use lib.Bits.{bitAnd, bitOr, bitXor}
 use lib.Dec.{eqb}
-use Rattle.std.proofs.shelf.Bits.{and-shr, and-mod, or-shr, or-mod, xor-shr, xor-mod, pow-add, pow-pos, shl-shr, shr-shr, pow-below, div-below}
+use lib.Pow.{ones-lt, ones-split}
+use Rattle.std.proofs.shelf.Bits.{and-shr, and-mod, or-shr, or-mod, xor-shr, xor-mod, pow-add, pow-pos, shl-shr, shr-shr, shr-high, pow-below, div-below}
 use Rattle.std.proofs.shelf.Tests.{eq-eqb, ne-eqb, cases-order, cases-eq}
 use Rattle.literals.specs.Bits.{bit}
 
@@ -89,6 +90,18 @@ bit-pow k j =
     let z : 2 ^ k / 2 ^ j < 1 = div-below (2 ^ k) (2 ^ j) 1 (pow-pos j) (omega (arith, pow-below k j h)) in
     ne-eqb _ 1 (omega arith) ∙ sym (ne-eqb j k (omega arith))))
     (cases-order j k)
+
+-- the first n bits of 2 ^ n - 1 are all set
+pub bit-ones : (n k : ℕ) → k < n → bit (2 ^ n - 1) k ≡ true
+unfolding bit
+bit-ones n k lt =
+    let j : ℕ = n - k - 1 in
+    let split : suc j + k ≡ n = omega arith in
+    let e : 2 ^ n - 1 ≡ (2 ^ suc j - 1) * 2 ^ k + (2 ^ k - 1) = ap (λ (x : ℕ). 2 ^ x - 1) (sym split) ∙ ones-split (suc j) k in
+    let q : (2 ^ n - 1) / 2 ^ k ≡ 2 ^ suc j - 1 = ap (λ (x : ℕ). x / 2 ^ k) e ∙ shr-high (2 ^ suc j - 1) k (2 ^ k - 1) (ones-lt k) in
+    let s : 2 ^ suc j ≡ 2 ^ j * 2 = pow-suc 2 j in
+    let p = pow-pos j in
+    eq-eqb _ 1 (omega arith)
 
 -- one bit more
 pub bit-more : (m k j : ℕ) → bit (bitOr m (2 ^ k)) j ≡ (bit m j || eqb j k)

@@ -2,7 +2,8 @@
 ghost use mathlib.Core.Path.{_≡_};
 ghost use Prim.Native.Nat.{ℕ, _≤_, _<_};
 ghost use lib.ListN.{length};
-ghost use Rattle.literals.specs.Literals.{names, first-unnamed, place-within, no-literals, inserted, with-literal, set-of};
+ghost use Rattle.literals.specs.Literals.{names, first-unnamed, place-within, no-literals, inserted, with-literal, set-of, has};
+ghost use Rattle.literals.specs.Bits.{bit};
 ghost use mathlib.Core.Bool.{true};
 
 // A set of literals over at most 64 variables: bit k - 1 of `closed` stands for the literal k, and bit k - 1 of `opened` for -k.
@@ -48,6 +49,13 @@ pub fn find_unnamed(n: usize, literals: &[i8]) -> Option<usize>
     } else {
         None
     }
+}
+
+// Whether the bit of that index is set; one beyond 64 is not.
+pub fn has_bit(mask: u64, index: usize) -> bool
+    ensures set { λ r. ⌜ r ≡ bit mask index ⌝ }
+{
+    index < 64 && (mask >> index) & 1 == 1
 }
 
 impl LiteralSet {
@@ -97,5 +105,16 @@ impl LiteralSet {
             set = set.with(*literal);
         }
         set
+    }
+
+    // Whether the literal is in the set that wants variable index + 1 closed, or open.
+    pub fn has(self, index: usize, closed: bool) -> bool
+        ensures held { λ r. ⌜ r ≡ has self index closed ⌝ }
+    {
+        if closed {
+            has_bit(self.closed, index)
+        } else {
+            has_bit(self.opened, index)
+        }
     }
 }

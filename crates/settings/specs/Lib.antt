@@ -1,3 +1,4 @@
 pub mod Settings
 pub mod Least
 pub mod Readings
+pub mod Laws

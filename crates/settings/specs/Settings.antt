@@ -24,6 +24,11 @@ abbrev pub fits : List ℤ → List Bool → Bool
 fits [] x = true
 fits (l ∷ ls) x = agrees x l && fits ls x
 
+-- a setting agrees with one of the literals (true), or disagrees with one (false)
+abbrev pub any-agrees : Bool → List ℤ → List Bool → Bool
+any-agrees true ls x = met ls x
+any-agrees false ls x = not (fits ls x)
+
 -- one of several lists of literals covers a setting: the setting fits it
 abbrev pub covered : List (List ℤ) → List Bool → Bool
 covered [] x = false
@@ -59,6 +64,11 @@ meets s x = meets-from 0 s x
 
 abbrev pub covers : LiteralSet → List Bool → Bool
 covers s x = covers-from 0 s x
+
+-- the set has a literal that a contact agrees with (false), or one that a contact opposes (true)
+abbrev pub any-held : Bool → ℕ → LiteralSet → List Bool → Bool
+any-held false j s x = meets-from j s x
+any-held true j s x = not (covers-from j s x)
 
 -- every rule is met; some bar covers
 abbrev pub all-met : List LiteralSet → List Bool → Bool

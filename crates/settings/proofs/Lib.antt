@@ -1,0 +1,4 @@
+pub mod Recorded
+pub mod Scans
+pub mod Sets
+pub mod Listed
