@@ -1,6 +1,7 @@
 // Literals, and sets of them as two masks.
 ghost use mathlib.Core.Path.{_≡_};
-ghost use Prim.Native.Nat.{ℕ, _≤_, _<_};
+ghost use Prim.Native.Nat.{_%_};
+ghost use lib.Dec.{eqb};
 ghost use lib.ListN.{length};
 ghost use Rattle.literals.specs.Literals.{names, first-unnamed, place-within, no-literals, inserted, with-literal, set-of, has};
 ghost use Rattle.literals.specs.Bits.{bit};
@@ -51,11 +52,17 @@ pub fn find_unnamed(n: usize, literals: &[i8]) -> Option<usize>
     }
 }
 
+fn is_odd(number: u64) -> bool
+    ensures odd { λ r. ⌜ r ≡ eqb (number % 2) 1 ⌝ }
+{
+    number % 2 == 1
+}
+
 // Whether the bit of that index is set; one beyond 64 is not.
 pub fn has_bit(mask: u64, index: usize) -> bool
     ensures set { λ r. ⌜ r ≡ bit mask index ⌝ }
 {
-    index < 64 && (mask >> index) & 1 == 1
+    index < 64 && is_odd(mask >> index)
 }
 
 impl LiteralSet {
