@@ -1,5 +1,6 @@
 pub mod Least
 pub mod Literals
+pub mod Named
 pub mod Prefix
 pub mod Trim
 pub mod Why
