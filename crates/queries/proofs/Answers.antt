@@ -1,16 +1,15 @@
 -- What an answer of ASK tells.
-use mathlib.Core.Path.{_≡_, refl, sym, _∙_, ap}
-use mathlib.Core.Bool.{Bool, true, false, cond}
+use mathlib.Core.Path.{_≡_, refl, sym, _∙_, ap, subst}
+use mathlib.Core.Bool.{false, cond}
 use mathlib.Core.List.{List}
-use Prim.Native.Nat.{ℕ, _+_, _≤_, _<_}
+use Prim.Native.Nat.{ℕ, _≤_, _<_}
 use native.Mathlib.Omega.{arith}
 use lib.IntN.{ℤ}
 use lib.ListN.{length, getD}
 use Rattle.std.specs.Options.{isSome}
 use Rattle.std.specs.declared.option.Option.{Option}
 use Rattle.std.specs.declared.option.Option.the-variants.{Some, None}
-use Rattle.std.specs.declared.result.Result.{Result}
-use Rattle.std.specs.declared.result.Result.the-variants.{Ok, Err}
+use Rattle.std.specs.declared.result.Result.the-variants.{Ok}
 use Rattle.std.proofs.shelf.Counted.{length-map-counting, getD-map-counting}
 use Rattle.std.proofs.shelf.Lists.{length-take-le}
 use Rattle.tables.specs.declared.table.Table.{Table}
@@ -25,7 +24,7 @@ use Rattle.settings.specs.Least.{some}
 use Rattle.laws.proofs.Least.{some-from}
 use Rattle.laws.proofs.Named.{Named}
 use Rattle.solver.specs.Meaning.{Meaning, stands-with, literal-fault, Answers, Asked}
-use Rattle.queries.specs.Queries.{possible-with}
+use Rattle.queries.specs.Queries.{possible-with, Shown}
 
 pub length-reading : (n : ℕ) (s : Setting) → length (reading n s) ≡ n
 length-reading n s = length-map-counting (λ k. bit (s .closed) k) 0 n
@@ -65,3 +64,11 @@ possible-named m ls h = possible-unrefused m ls (fault-none m ls h)
 -- a table of N has at most N entries
 pub items-few : {T : Type 0} {N : ℕ} (t : Table T N) → length (items t) ≤ N
 items-few t = omega (arith, length-take-le (t .len) (t .slots) (t .within), t .within, t .whole)
+
+pub answer-shown : (m : Meaning) (ls : List ℤ) (o : Option Setting) → Answers m ls o → Shown m ls o
+answer-shown m ls None h = tt
+answer-shown m ls (Some s) h = h
+
+-- what was told of a list, told of an equal one
+pub told : (m : Meaning) (ls held : List ℤ) (o : Option Setting) → ls ≡ held → Asked m ls (Ok o) → Asked m held (Ok o)
+told m ls held o same = subst (λ t. Asked m t (Ok o)) same

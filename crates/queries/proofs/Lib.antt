@@ -1,2 +1,3 @@
 mod Answers
 mod Reasons
+mod Contacts

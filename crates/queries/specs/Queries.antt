@@ -10,9 +10,12 @@ use Rattle.std.specs.declared.option.Option.the-variants.{Some, None}
 use Rattle.std.specs.declared.result.Result.{Result}
 use Rattle.std.specs.declared.result.Result.the-variants.{Ok, Err}
 use Rattle.faults.specs.declared.SolverFault.{SolverFault}
+use Rattle.literals.specs.Bits.{bit}
 use Rattle.tables.specs.declared.table.Table.{Table}
 use Rattle.tables.specs.Tables.{items}
-use Rattle.settings.specs.Settings.{literals}
+use Rattle.settings.specs.declared.Setting.{Setting}
+use Rattle.settings.specs.Readings.{reading}
+use Rattle.settings.specs.Settings.{literal, literals}
 use Rattle.settings.specs.Least.{least, some}
 use Rattle.laws.specs.Choices.{chosen, why}
 use Rattle.solver.specs.Meaning.{Meaning, stands, stands-with, literal-fault}
@@ -20,6 +23,20 @@ use Rattle.solver.specs.Meaning.{Meaning, stands, stands-with, literal-fault}
 -- each literal names a contact, and some standing setting agrees with all of them
 unfoldable pub possible-with : Meaning → List ℤ → Bool
 possible-with m ls = cond (isSome (literal-fault m ls)) false (some (m .contacts) (stands-with m ls))
+
+-- a setting that was found stands and agrees with all the literals
+abbrev pub Shown : Meaning → List ℤ → Option Setting → Type 0
+Shown m ls None = Unit {0}
+Shown m ls (Some s) = stands-with m ls (reading (m .contacts) s) ≡ true
+
+-- what is held and what is placed, and contact k + 1 wanted open
+unfoldable pub opened-next : List ℤ → List ℤ → ℕ → List ℤ
+opened-next held placed k = (held ++ placed) ++ literal k false ∷ []
+
+-- each literal names a contact, and the setting found last stands and agrees with all of them where it has contact k + 1 open
+pub record Ready (m : Meaning) (ls : List ℤ) (last : Setting) (k : ℕ) : Type 0 where
+  pub named : literal-fault m ls ≡ None
+  pub serves : bit (last .closed) k ≡ false → stands-with m ls (reading (m .contacts) last) ≡ true
 
 -- the literals of the earliest standing setting that agrees with the held ones
 abbrev pub least-literals : Meaning → List ℤ → Option (List ℤ)

@@ -1,20 +1,19 @@
 // The earliest setting and the reason of smallest number, over any solver.
 ghost use mathlib.Core.Path.{_≡_};
-ghost use mathlib.Core.Bool.{not, cond, true};
+ghost use mathlib.Core.Bool.{not, cond, true, false};
 ghost use mathlib.Core.List.{[], _∷_, _++_};
 ghost use Prim.Native.Nat.{_<_, _≤_, _+_};
-ghost use lib.IntN.{pos, negsuc};
-ghost use lib.ListN.{length, drop, getD};
+ghost use lib.ListN.{length};
 ghost use Rattle.std.specs.Options.{isSome};
 ghost use Rattle.tables.specs.Tables.{items};
 ghost use Rattle.literals.specs.Bits.{bit};
 ghost use Rattle.settings.specs.Settings.{literal};
 ghost use Rattle.settings.specs.Readings.{reading};
-ghost use Rattle.std.specs.declared.option.Option.the-variants.{None};
+ghost use Rattle.std.specs.declared.option.Option.the-variants.{Some, None};
 ghost use Rattle.laws.specs.Choices.{enough, trim};
 ghost use Rattle.solver.specs.Meaning.{literal-fault, stands, stands-with};
 ghost use Rattle.solver.specs.Over.{meaning-of};
-ghost use Rattle.queries.specs.Queries.{possible-with, least-literals, why-literals, answered, listed};
+ghost use Rattle.queries.specs.Queries.{possible-with, Shown, Ready, opened-next, least-literals, why-literals, answered, listed};
 use faults::SolverFault;
 use settings::Setting;
 use solver::Solver;
@@ -28,6 +27,18 @@ fn is_closed(setting: Setting, k: usize) -> bool
     (setting.closed >> k as u32) % 2 == 1
 }
 
+// The literal that wants contact k + 1 closed, or open.
+fn literal_of(k: usize, closed: bool) -> i8
+    requires contact { ⌜ k < 32 ⌝ }
+    ensures wanted { λ r. ⌜ r ≡ literal k closed ⌝ }
+{
+    if closed {
+        (k + 1) as i8
+    } else {
+        -((k + 1) as i8)
+    }
+}
+
 // Two lists of literals, one behind the other.
 fn joined(front: &[i8], back: &[i8]) -> Table<i8, 65>
     requires room { ⌜ length (now front) + length (now back) ≤ 65 ⌝ }
@@ -39,16 +50,17 @@ fn joined(front: &[i8], back: &[i8]) -> Table<i8, 65>
     all
 }
 
-// Whether some standing setting agrees with all the literals; there is none where a literal names no contact.
-fn possible<S: Solver>(solver: &mut S, literals: &[i8]) -> bool
+// A standing setting that agrees with all the literals; there is none where a literal names no contact.
+fn witness<S: Solver>(solver: &mut S, literals: &[i8]) -> Option<Setting>
     requires ordered { ⌜ S·Solver .ordered (now solver) ⌝ }
-    ensures answer { λ r. ⌜ r ≡ possible-with (meaning-of S·Solver (now (solver .entry))) (now (literals .entry)) ⌝ }
+    ensures found { λ r. ⌜ isSome r ≡ possible-with (meaning-of S·Solver (now (solver .entry))) (now (literals .entry)) ⌝ }
+    ensures shown { λ r. ⌜ Shown (meaning-of S·Solver (now (solver .entry))) (now (literals .entry)) r ⌝ }
     ensures meaning_kept { λ _. ⌜ meaning-of S·Solver (now (solver .exit)) ≡ meaning-of S·Solver (now (solver .entry)) ⌝ }
     ensures ordered { λ _. ⌜ S·Solver .ordered (now (solver .exit)) ⌝ }
 {
     match solver.ask(literals) {
-        Ok(found) => found.is_some(),
-        Err(_) => false,
+        Ok(found) => found,
+        Err(_) => None,
     }
 }
 
@@ -61,7 +73,7 @@ fn keep_next<S: Solver>(solver: &mut S, kept: &mut Table<i8, 32>, literal: i8, l
     ensures ordered { λ _. ⌜ S·Solver .ordered (now (solver .exit)) ⌝ }
 {
     let asked = joined(kept.as_slice(), later);
-    if possible(solver, asked.as_slice()) {
+    if witness(solver, asked.as_slice()).is_some() {
         let _ = kept.push(literal);
     }
 }
@@ -95,5 +107,100 @@ pub fn reason<S: Solver>(
     match solver.ask(held.as_slice())? {
         Some(_) => Ok(None),
         None => Ok(Some(trimmed(solver, held))),
+    }
+}
+
+// What is held and placed, with contact k + 1 wanted open behind it.
+fn wanting_open(held: &[i8], placed: &Table<i8, 32>, k: usize) -> Table<i8, 65>
+    requires few { ⌜ length (now held) ≤ 32 ⌝ }
+    requires contact { ⌜ k < 32 ⌝ }
+    ensures all { λ r. ⌜ items r ≡ opened-next (now (held .entry)) (items (now (placed .entry))) k ⌝ }
+{
+    let mut all = joined(held, placed.as_slice());
+    let _ = all.push(literal_of(k, false));
+    all
+}
+
+// A standing setting that agrees with what is held and placed and has contact k + 1 open: the one found last where it serves, and else ASK tells.
+fn next_open<S: Solver>(
+    solver: &mut S,
+    held: &[i8],
+    placed: &Table<i8, 32>,
+    last: Setting,
+    k: usize,
+) -> Option<Setting>
+    requires ordered { ⌜ S·Solver .ordered (now solver) ⌝ }
+    requires few { ⌜ length (now held) ≤ 32 ⌝ }
+    requires contact { ⌜ k < 32 ⌝ }
+    requires ready { ⌜ Ready (meaning-of S·Solver (now solver)) (opened-next (now held) (items (now placed)) k) last k ⌝ }
+    ensures found { λ r. ⌜ isSome r ≡ possible-with (meaning-of S·Solver (now (solver .entry))) (opened-next (now (held .entry)) (items (now (placed .entry))) k) ⌝ }
+    ensures shown { λ r. ⌜ Shown (meaning-of S·Solver (now (solver .entry))) (opened-next (now (held .entry)) (items (now (placed .entry))) k) r ⌝ }
+    ensures meaning_kept { λ _. ⌜ meaning-of S·Solver (now (solver .exit)) ≡ meaning-of S·Solver (now (solver .entry)) ⌝ }
+    ensures ordered { λ _. ⌜ S·Solver .ordered (now (solver .exit)) ⌝ }
+{
+    if is_closed(last, k) {
+        let asked = wanting_open(held, placed, k);
+        witness(solver, asked.as_slice())
+    } else {
+        Some(last)
+    }
+}
+
+// Places the literal of contact k + 1 last: open where a standing setting agrees with that and with all that is held and placed, and else closed.
+fn place_next<S: Solver>(
+    solver: &mut S,
+    held: &[i8],
+    placed: &mut Table<i8, 32>,
+    last: Setting,
+    k: usize,
+) -> Option<Setting>
+    requires ordered { ⌜ S·Solver .ordered (now solver) ⌝ }
+    requires few { ⌜ length (now held) ≤ 32 ⌝ }
+    requires contact { ⌜ k < 32 ⌝ }
+    requires room { ⌜ length (items (now placed)) < 32 ⌝ }
+    requires ready { ⌜ Ready (meaning-of S·Solver (now solver)) (opened-next (now held) (items (now placed)) k) last k ⌝ }
+    ensures found { λ r. ⌜ isSome r ≡ possible-with (meaning-of S·Solver (now (solver .entry))) (opened-next (now (held .entry)) (items (now (placed .entry))) k) ⌝ }
+    ensures shown { λ r. ⌜ Shown (meaning-of S·Solver (now (solver .entry))) (opened-next (now (held .entry)) (items (now (placed .entry))) k) r ⌝ }
+    ensures next { λ r. ⌜ items (now (placed .exit)) ≡ items (now (placed .entry)) ++ literal k (not (isSome r)) ∷ [] ⌝ }
+    ensures meaning_kept { λ _. ⌜ meaning-of S·Solver (now (solver .exit)) ≡ meaning-of S·Solver (now (solver .entry)) ⌝ }
+    ensures ordered { λ _. ⌜ S·Solver .ordered (now (solver .exit)) ⌝ }
+{
+    let found = next_open(solver, held, placed, last, k);
+    let _ = placed.push(literal_of(k, found.is_none()));
+    found
+}
+
+// The literals of the earliest standing setting that agrees with the held ones, where one such setting is known.
+fn decided<S: Solver>(solver: &mut S, held: &Table<i8, 32>, first: Setting) -> Table<i8, 32>
+    requires ordered { ⌜ S·Solver .ordered (now solver) ⌝ }
+    requires named { ⌜ literal-fault (meaning-of S·Solver (now solver)) (items (now held)) ≡ None ⌝ }
+    requires shown { ⌜ stands-with (meaning-of S·Solver (now solver)) (items (now held)) (reading (meaning-of S·Solver (now solver) .contacts) first) ≡ true ⌝ }
+    ensures earliest { λ r. ⌜ Some (items r) ≡ least-literals (meaning-of S·Solver (now (solver .entry))) (items (now (held .entry))) ⌝ }
+    ensures meaning_kept { λ _. ⌜ meaning-of S·Solver (now (solver .exit)) ≡ meaning-of S·Solver (now (solver .entry)) ⌝ }
+    ensures ordered { λ _. ⌜ S·Solver .ordered (now (solver .exit)) ⌝ }
+{
+    let n = solver.contacts();
+    let all = held.as_slice();
+    let mut placed = Table::new(0);
+    let mut last = first;
+    for k in 0..n {
+        last = place_next(solver, all, &mut placed, last, k).unwrap_or(last);
+    }
+    placed
+}
+
+// LEAST: the literals of the earliest standing setting that agrees with the held ones, or none where there is no such setting.
+pub fn earliest<S: Solver>(
+    solver: &mut S,
+    held: &Table<i8, 32>,
+) -> Result<Option<Table<i8, 32>>, SolverFault>
+    requires ordered { ⌜ S·Solver .ordered (now solver) ⌝ }
+    ensures answer { λ r. ⌜ listed r ≡ answered (literal-fault (meaning-of S·Solver (now (solver .entry))) (items (now (held .entry)))) (least-literals (meaning-of S·Solver (now (solver .entry))) (items (now (held .entry)))) ⌝ }
+    ensures meaning_kept { λ _. ⌜ meaning-of S·Solver (now (solver .exit)) ≡ meaning-of S·Solver (now (solver .entry)) ⌝ }
+    ensures ordered { λ _. ⌜ S·Solver .ordered (now (solver .exit)) ⌝ }
+{
+    match solver.ask(held.as_slice())? {
+        None => Ok(None),
+        Some(first) => Ok(Some(decided(solver, held, first))),
     }
 }

@@ -1,24 +1,19 @@
 use mathlib.Core.Path.{_≡_, sym, _∙_, ap, subst}
-use mathlib.Core.Bool.{true, false, not}
+use mathlib.Core.Bool.{not}
 use mathlib.Core.List.{List, []}
 use lib.IntN.{ℤ}
 use Rattle.std.specs.Options.{mapped}
-use Rattle.std.specs.declared.option.Option.{Option}
 use Rattle.std.specs.declared.option.Option.the-variants.{Some, None}
 use Rattle.std.specs.declared.result.Result.the-variants.{Ok}
-use Rattle.faults.specs.declared.SolverFault.{SolverFault}
-use Rattle.settings.specs.Least.{some}
 use Rattle.settings.specs.declared.Setting.{Setting}
 use Rattle.tables.specs.Tables.{items}
 use Rattle.laws.specs.Choices.{chosen, enough, trim}
 use Rattle.laws.proofs.Why.{why-trim, why-none}
-use Rattle.solver.specs.Meaning.{Meaning, stands, stands-with, literal-fault, Answers}
+use Rattle.solver.specs.Meaning.{Meaning, stands, literal-fault, Answers}
 use Rattle.solver.specs.Over.{meaning-of}
 use Rattle.queries.specs.Queries.{answered, why-literals}
-use Rattle.queries.proofs.Answers.{answer-tells}
-use Rattle.queries.proofs.reason.Given as given
+use Rattle.queries.proofs.Answers.{answer-tells, told}
 use Rattle.queries.proofs.reason.Needs as need
-use Rattle.queries.proofs.reason.Needs.{In-Continue-ask}
 
 -- the answers of a first ask that said yes, or no
 with-some : (m : Meaning) (ls : List ℤ) (s : Setting) → (literal-fault m ls ≡ None) × Answers m ls (Some s) → Ok None ≡ answered (literal-fault m ls) (why-literals m ls)
@@ -29,18 +24,11 @@ with-some m ls s h =
 with-none : (m : Meaning) (ls : List ℤ) → (literal-fault m ls ≡ None) × Answers m ls None → Ok (Some (trim (enough (m .contacts) (stands m)) [] ls)) ≡ answered (literal-fault m ls) (why-literals m ls)
 with-none m ls h = sym (ap (λ o. answered o (why-literals m ls)) (h .0) ∙ ap Ok (why-trim (m .contacts) (stands m) ls (ap not (h .1))))
 
--- what the ask told, of the held literals
-told : (g : given.Over) (c : In-Continue-ask g) → (literal-fault (meaning-of (g .S·Solver) (c .args .solver .now)) (items (c .args .held .now)) ≡ None) × Answers (meaning-of (g .S·Solver) (c .args .solver .now)) (items (c .args .held .now)) (c .in-Continue-ask .field-0)
-told g c =
-    let m = meaning-of (g .S·Solver) (c .args .solver .now) in
-    let P : List ℤ → Type 0 = λ ls. (literal-fault m ls ≡ None) × Answers m ls (c .in-Continue-ask .field-0) in
-    subst P (c .as-slice .ensures .entries) (c .in-Continue-ask .ensures tt .answer)
-
 pub returns-in-Some : need.returns-in-Some
 returns-in-Some g c =
     let m = meaning-of (g .S·Solver) (c .args .solver .now) in
     let held = items (c .args .held .now) in
-    let h = told g (need.at·returns-in-Some g c .In-Continue-ask) in
+    let h = told m (c .as-slice .result .now) held (c .in-Continue-ask .field-0) (c .as-slice .ensures .entries) (c .in-Continue-ask .ensures tt .answer) in
     record {
       answer = with-some m held (c .in-Some .field-0) (h .0, subst (Answers m held) (c .in-Some .is) (h .1));
       meaning-kept = c .ask .ensures .meaning-kept;
@@ -49,16 +37,16 @@ returns-in-Some g c =
 
 pub trimmed-requires : need.trimmed-requires
 trimmed-requires g c κs =
-    record {
-      ordered = c .ask .ensures .ordered;
-      named = ap (λ m. literal-fault m (items (c .args .held .now))) (c .ask .ensures .meaning-kept) ∙ told g (need.at·trimmed-requires g c .In-Continue-ask) .0;
-    }
+    let m = meaning-of (g .S·Solver) (c .args .solver .now) in
+    let held = items (c .args .held .now) in
+    let h = told m (c .as-slice .result .now) held (c .in-Continue-ask .field-0) (c .as-slice .ensures .entries) (c .in-Continue-ask .ensures tt .answer) in
+    record { ordered = c .ask .ensures .ordered; named = ap (λ v. literal-fault v held) (c .ask .ensures .meaning-kept) ∙ h .0 }
 
 pub returns-in-None : need.returns-in-None
 returns-in-None g c =
     let m = meaning-of (g .S·Solver) (c .args .solver .now) in
     let held = items (c .args .held .now) in
-    let h = told g (need.at·returns-in-None g c .In-Continue-ask) in
+    let h = told m (c .as-slice .result .now) held (c .in-Continue-ask .field-0) (c .as-slice .ensures .entries) (c .in-Continue-ask .ensures tt .answer) in
     let same = c .ask .ensures .meaning-kept in
     let left : items (c .trimmed .result) ≡ trim (enough (m .contacts) (stands m)) [] held = c .trimmed .ensures .left ∙ ap (λ v. trim (enough (v .contacts) (stands v)) [] held) same in
     record {

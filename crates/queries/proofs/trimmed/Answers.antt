@@ -1,10 +1,10 @@
 use mathlib.Core.Path.{_≡_, refl, sym, _∙_, ap, subst}
 use mathlib.Core.Bool.{cond}
-use mathlib.Core.List.{List, [], _∷_, _++_}
-use Prim.Native.Nat.{ℕ, _+_, _-_, _<_}
+use mathlib.Core.List.{[], _∷_, _++_}
+use Prim.Native.Nat.{_+_, _-_}
 use native.Mathlib.Omega.{arith}
 use borrow.Author.Needs.{needs}
-use lib.IntN.{ℤ, pos}
+use lib.IntN.{pos}
 use lib.ListN.{length, getD, take, drop}
 use mir.Syntax.{w8}
 use mir.Val.{toZ, ofZ, SFits}
@@ -13,7 +13,7 @@ use Rattle.std.proofs.shelf.Signed.{toZ-ofZ}
 use Rattle.tables.specs.Tables.{items}
 use Rattle.laws.specs.Choices.{enough, trim}
 use Rattle.laws.proofs.Named.{Named}
-use Rattle.solver.specs.Meaning.{Meaning, stands}
+use Rattle.solver.specs.Meaning.{stands}
 use Rattle.solver.specs.Over.{meaning-of}
 use Rattle.queries.specs.Queries.{possible-with}
 use Rattle.queries.proofs.Answers.{named-from, items-few}

@@ -1,13 +1,13 @@
-use mathlib.Core.Path.{_∙_}
 use Rattle.solver.specs.Over.{meaning-of}
-use Rattle.queries.proofs.Answers.{answer-possible, refused-impossible}
-use Rattle.queries.proofs.possible.Needs as need
+use Rattle.queries.proofs.Answers.{answer-possible, answer-shown, refused-impossible}
+use Rattle.queries.proofs.witness.Needs as need
 
 pub returns-in-Ok : need.returns-in-Ok
 returns-in-Ok g c =
     let m = meaning-of (g .S·Solver) (c .args .solver .now) in
     record {
-      answer = c .is-some .ensures ∙ answer-possible m (c .args .literals .now) (c .in-Ok .found) (c .in-Ok .ensures tt .answer);
+      found = answer-possible m (c .args .literals .now) (c .in-Ok .found) (c .in-Ok .ensures tt .answer);
+      shown = answer-shown m (c .args .literals .now) (c .in-Ok .found) (c .in-Ok .ensures tt .answer .1);
       meaning-kept = c .ask .ensures .meaning-kept;
       ordered = c .ask .ensures .ordered;
     }
@@ -16,7 +16,8 @@ pub returns-in-Err : need.returns-in-Err
 returns-in-Err g c =
     let m = meaning-of (g .S·Solver) (c .args .solver .now) in
     record {
-      answer = refused-impossible m (c .args .literals .now) (c .in-Err .field-0) (c .in-Err .ensures tt .answer);
+      found = refused-impossible m (c .args .literals .now) (c .in-Err .field-0) (c .in-Err .ensures tt .answer);
+      shown = tt;
       meaning-kept = c .ask .ensures .meaning-kept;
       ordered = c .ask .ensures .ordered;
     }
