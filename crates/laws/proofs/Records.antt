@@ -13,7 +13,7 @@ use Rattle.std.proofs.shelf.Bits.{shr-split, shr-high, mod-below}
 use Rattle.std.proofs.shelf.Tests.{eq-eqb, ne-eqb, false≢true, true≢false}
 use Rattle.settings.specs.Settings.{fits, number, literals}
 use Rattle.laws.specs.Choices.{chosen}
-use Rattle.laws.specs.Records.{closed-weight, opened-weight, total, digits, signed}
+use Rattle.settings.specs.TermRecords.{closed-weight, opened-weight, total, digits, signed}
 use Rattle.laws.specs.Laws.{Records-Law}
 use Rattle.laws.proofs.Least.{number-below}
 use Rattle.laws.proofs.Literals.{at-length, chosen-on}

@@ -14,7 +14,7 @@ use Rattle.settings.specs.Settings.{fits, covered, number, literals}
 use Rattle.settings.specs.Least.{least}
 use Rattle.laws.specs.Choices.{chosen, part-of, enough, why, greedy}
 use Rattle.laws.specs.Terms.{Outcome, made, shared, full, uncovered, next-term, terms}
-use Rattle.laws.specs.Records.{sums, record-covers, wanted}
+use Rattle.settings.specs.TermRecords.{sums, record-covers, wanted}
 
 -- two tests answer alike on every setting of n contacts
 abbrev pub Alike : ℕ → (List Bool → Bool) → (List Bool → Bool) → Type 0

@@ -1,6 +1,5 @@
 pub mod Choices
 pub mod Terms
-pub mod Records
 pub mod Laws
 pub mod Texts
 pub mod Positions

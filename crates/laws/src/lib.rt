@@ -2,13 +2,6 @@
 ghost use Rattle.laws.specs.Laws.{Least-Law, Least-Alike, Why-Law, Why-Alike, Terms-Law, Terms-Alike, Records-Law};
 ghost use Rattle.laws.specs.Positions.{Positions};
 
-// A term as it is written: the sum of the weights of the contacts that it wants closed, and of those that it wants open.
-#[derive(Clone, Copy)]
-pub struct Term {
-    pub closed: u32,
-    pub opened: u32,
-}
-
 // LEAST: nothing passes, or the answer passes and every other setting that passes has a greater number.
 pub fn least_law()
     ensures earliest_or_none { λ _. ⌜ Least-Law ⌝ }

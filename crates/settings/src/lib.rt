@@ -6,6 +6,7 @@ ghost use lib.ListN.{getD};
 ghost use Rattle.tables.specs.Tables.{items};
 ghost use Rattle.settings.specs.Settings.{agrees, met, fits, any-agrees, meets, covers, any-held, literal, literals};
 ghost use Rattle.settings.specs.Readings.{reading, setting-of};
+ghost use Rattle.settings.specs.TermRecords.{record-covers};
 ghost use Rattle.settings.specs.Laws.{Sets-Law, Setting-Law};
 use literals::LiteralSet;
 use literals::has_bit;
@@ -16,6 +17,23 @@ use tables::table::Table;
 #[derive(Clone, Copy)]
 pub struct Setting {
     pub closed: u32,
+}
+
+// A term as it is written: the sum of the weights 2 ^ (n - k) of the contacts k that it wants closed, and of those that it wants open.
+// It covers the settings that agree with all that it wants.
+#[derive(Clone, Copy)]
+pub struct Term {
+    pub closed: u32,
+    pub opened: u32,
+}
+
+impl Term {
+    // Whether it covers the setting of that number.
+    pub fn covers(self, number: u32) -> bool
+        ensures covered { λ r. ⌜ r ≡ record-covers self number ⌝ }
+    {
+        number & self.closed == self.closed && number & self.opened == 0
+    }
 }
 
 impl Setting {

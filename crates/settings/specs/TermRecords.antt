@@ -5,7 +5,7 @@ use Prim.Native.Nat.{ℕ, zero, suc, _+_, _-_, _^_, _/_, _%_}
 use lib.Bits.{bitAnd}
 use lib.Dec.{eqb}
 use lib.IntN.{ℤ, pos, negsuc}
-use Rattle.laws.specs.declared.Term.{Term}
+use Rattle.settings.specs.declared.Term.{Term}
 
 -- the weight of a literal's contact where the literal wants it closed; where it wants it open
 abbrev pub closed-weight : ℕ → ℤ → ℕ
