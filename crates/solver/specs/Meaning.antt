@@ -43,9 +43,12 @@ abbrev pub Answers : Meaning → List ℤ → Option Setting → Type 0
 Answers m ls None = some (m .contacts) (stands-with m ls) ≡ false
 Answers m ls (Some s) = stands-with m ls (reading (m .contacts) s) ≡ true
 
--- the first question of ASK, ADD and BAR: does each literal name a contact?
+-- the first question of ASK, ADD and BAR: does each literal name one of n contacts?
+abbrev pub unnamed-fault : ℕ → List ℤ → Option SolverFault
+unnamed-fault n ls = elim (first-unnamed n ls) [ None ↦ None | Some place ↦ Some (BadLiteral place) ]
+
 abbrev pub literal-fault : Meaning → List ℤ → Option SolverFault
-literal-fault m ls = elim (first-unnamed (m .contacts) ls) [ None ↦ None | Some place ↦ Some (BadLiteral place) ]
+literal-fault m ls = unnamed-fault (m .contacts) ls
 
 abbrev pub Asked : Meaning → List ℤ → Result (Option Setting) SolverFault → Type 0
 Asked m ls (Ok answer) = (literal-fault m ls ≡ None) × Answers m ls answer
