@@ -7,8 +7,8 @@ ghost use Rattle.faults.specs.declared.SolverFault.the-variants.{TooManyRules, 
 ghost use Rattle.solver.specs.Meaning.{unnamed-fault, full-fault, outcome, appended};
 ghost use Rattle.additions.specs.Additions.{rules-of, bars-of, any-against, passes};
 use faults::SolverFault;
-use literals::find_unnamed;
 use literals::LiteralSet;
+use literals::find_unnamed;
 use settings::Setting;
 use tables::table::Table;
 
@@ -20,7 +20,12 @@ pub struct Additions {
 }
 
 // Places the set of the literals last, where each literal names one of n contacts and there is room.
-fn append(held: &mut Table<LiteralSet, 64>, n: usize, literals: &[i8], full: SolverFault) -> Result<(), SolverFault>
+fn append(
+    held: &mut Table<LiteralSet, 64>,
+    n: usize,
+    literals: &[i8],
+    full: SolverFault,
+) -> Result<(), SolverFault>
     ensures answer { λ r. ⌜ r ≡ outcome (full-fault (unnamed-fault n (now (literals .entry))) (items (now (held .entry))) full) ⌝ }
     ensures placed { λ _. ⌜ items (now (held .exit)) ≡ appended (full-fault (unnamed-fault n (now (literals .entry))) (items (now (held .entry))) full) (items (now (held .entry))) (now (literals .entry)) ⌝ }
 {
