@@ -1,0 +1,80 @@
+// What is due next: one token, judged.
+ghost use mathlib.Core.Path.{_≡_};
+ghost use Prim.Native.Nat.{_≤_, _<_};
+ghost use Rattle.std.specs.Vec.{made};
+ghost use Rattle.std.specs.shelf.Text.{sameBytes};
+ghost use Rattle.texts.specs.Due.{limited, number, line-end-due, exactly, ended, one, leaving};
+ghost use Rattle.texts.specs.Lexemes.{ahead};
+use super::Token;
+use super::Words;
+use crate::decimal::decimal;
+use faults::TextFault;
+
+fn same_bytes(word: &[u8], due: &[u8]) -> bool
+    ensures value { λ r. ⌜ r ≡ sameBytes (now (word .entry)) (now (due .entry)) ⌝ }
+{
+    word == due
+}
+
+// The number of the word at that place, from `low` to `high`.
+pub fn limited(word: &[u8], place: usize, low: usize, high: usize) -> Result<usize, TextFault>
+    requires capped { ⌜ high < 1000000 ⌝ }
+    ensures value { λ r. ⌜ r ≡ limited low high (now (word .entry)) place ⌝ }
+    ensures bound { λ r. ⌜ made r (λ n. n ≤ high) ⌝ }
+{
+    match decimal(word) {
+        None => Err(TextFault::Shape(place)),
+        Some(n) if low <= n && n <= high => Ok(n),
+        Some(_) => Err(TextFault::Limit(place)),
+    }
+}
+
+impl<'a> Words<'a> {
+    // A number from `low` to `high`.
+    pub fn number(&mut self, low: usize, high: usize) -> Result<usize, TextFault>
+        requires capped { ⌜ high < 1000000 ⌝ }
+        ensures reads { λ r. ⌜ one (number low high) (ahead (now (self .entry))) ≡ leaving r (ahead (now (self .exit))) ⌝ }
+        ensures bound { λ r. ⌜ made r (λ n. n ≤ high) ⌝ }
+    {
+        match self.next() {
+            Token::Word(word, at) => limited(word, at, low, high),
+            Token::LineEnd(at) | Token::End(at) => Err(TextFault::Shape(at)),
+        }
+    }
+
+    // The end of a line; answers the place behind it.
+    pub fn line_end(&mut self) -> Result<usize, TextFault>
+        ensures reads { λ r. ⌜ one line-end-due (ahead (now (self .entry))) ≡ leaving r (ahead (now (self .exit))) ⌝ }
+    {
+        match self.next() {
+            Token::LineEnd(at) => Ok(at + 1),
+            Token::Word(_, at) | Token::End(at) => Err(TextFault::Shape(at)),
+        }
+    }
+
+    // The word `due` itself.
+    pub fn exactly(&mut self, due: &[u8]) -> Result<(), TextFault>
+        ensures reads { λ r. ⌜ one (exactly (now (due .entry))) (ahead (now (self .entry))) ≡ leaving r (ahead (now (self .exit))) ⌝ }
+    {
+        match self.next() {
+            Token::Word(word, at) => {
+                if same_bytes(word, due) {
+                    Ok(())
+                } else {
+                    Err(TextFault::Shape(at))
+                }
+            }
+            Token::LineEnd(at) | Token::End(at) => Err(TextFault::Shape(at)),
+        }
+    }
+
+    // The end of the text, right at `behind`: not even spaces stand before it.
+    pub fn finish(mut self, behind: usize) -> Result<(), TextFault>
+        ensures reads { λ r. ⌜ r ≡ ended behind (ahead (self .entry)) ⌝ }
+    {
+        match self.next() {
+            Token::End(at) if at == behind => Ok(()),
+            Token::Word(_, at) | Token::LineEnd(at) | Token::End(at) => Err(TextFault::Shape(at)),
+        }
+    }
+}
