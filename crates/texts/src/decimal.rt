@@ -8,20 +8,20 @@ ghost use Rattle.std.specs.Text.{asciiDigit};
 ghost use Rattle.texts.specs.Numerals.{numeral};
 
 // More than any limit of a text: a greater number is told as this one.
-const CAP: usize = 1_000_000;
+const CAP: u32 = 1_000_000;
 
 // The number with one digit more behind it.
-fn with_digit(number: usize, digit: u8) -> usize
+fn with_digit(number: u32, digit: u8) -> u32
     requires small { ⌜ number ≤ 1000000 ⌝ }
     requires digit { ⌜ asciiDigit digit ≡ true ⌝ }
     ensures value { λ r. ⌜ r ≡ min (number * 10 + (digit - 48)) 1000000 ⌝ }
 {
-    (number * 10 + (digit - b'0') as usize).min(CAP)
+    (number * 10 + (digit - b'0') as u32).min(CAP)
 }
 
 // The number that the word writes, or `CAP` where it is more; `None` where the word is no number in base ten
 // or has needless zeros in front.
-pub fn decimal(word: &[u8]) -> Option<usize>
+pub fn decimal(word: &[u8]) -> Option<u32>
     ensures value { λ r. ⌜ r ≡ cond (numeral (now (word .entry))) (Some (min (value 10 (now (word .entry))) 1000000)) None ⌝ }
 {
     if word.is_empty() {

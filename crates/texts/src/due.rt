@@ -1,6 +1,6 @@
 // What is due next: one token, judged.
 ghost use mathlib.Core.Path.{_≡_};
-ghost use Prim.Native.Nat.{_≤_, _<_};
+ghost use Prim.Native.Nat.{_≤_};
 ghost use Rattle.std.specs.Vec.{made};
 ghost use Rattle.std.specs.shelf.Text.{sameBytes};
 ghost use Rattle.texts.specs.Due.{limited, number, line-end-due, exactly, ended, one, leaving};
@@ -17,22 +17,20 @@ fn same_bytes(word: &[u8], due: &[u8]) -> bool
 }
 
 // The number of the word at that place, from `low` to `high`.
-pub fn limited(word: &[u8], place: usize, low: usize, high: usize) -> Result<usize, TextFault>
-    requires capped { ⌜ high < 1000000 ⌝ }
+pub fn limited(word: &[u8], place: usize, low: u16, high: u16) -> Result<u16, TextFault>
     ensures value { λ r. ⌜ r ≡ limited low high (now (word .entry)) place ⌝ }
     ensures bound { λ r. ⌜ made r (λ n. n ≤ high) ⌝ }
 {
     match decimal(word) {
         None => Err(TextFault::Shape(place)),
-        Some(n) if low <= n && n <= high => Ok(n),
+        Some(n) if low as u32 <= n && n <= high as u32 => Ok(n as u16),
         Some(_) => Err(TextFault::Limit(place)),
     }
 }
 
 impl<'a> Words<'a> {
     // A number from `low` to `high`.
-    pub fn number(&mut self, low: usize, high: usize) -> Result<usize, TextFault>
-        requires capped { ⌜ high < 1000000 ⌝ }
+    pub fn number(&mut self, low: u16, high: u16) -> Result<u16, TextFault>
         ensures reads { λ r. ⌜ one (number low high) (ahead (now (self .entry))) ≡ leaving r (ahead (now (self .exit))) ⌝ }
         ensures bound { λ r. ⌜ made r (λ n. n ≤ high) ⌝ }
     {
