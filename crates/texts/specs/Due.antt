@@ -43,11 +43,14 @@ line-end-due (word w p) = Err (Shape p)
 line-end-due (line-end p) = Ok (p + 1)
 line-end-due (end p) = Err (Shape p)
 
--- the word w₀ itself
+-- the word w at p, which is to be the word due
+abbrev pub exact : List ℕ → List ℕ → ℕ → Result (Unit {0}) TextFault
+exact due w p = cond (sameBytes w due) (Ok tt) (Err (Shape p))
+
 abbrev pub exactly : List ℕ → Lexeme → Result (Unit {0}) TextFault
-exactly w₀ (word w p) = cond (sameBytes w w₀) (Ok tt) (Err (Shape p))
-exactly w₀ (line-end p) = Err (Shape p)
-exactly w₀ (end p) = Err (Shape p)
+exactly due (word w p) = exact due w p
+exactly due (line-end p) = Err (Shape p)
+exactly due (end p) = Err (Shape p)
 
 -- the end of the text, right at a place
 abbrev pub end-due : ℕ → Lexeme → Result (Unit {0}) TextFault

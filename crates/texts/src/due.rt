@@ -3,7 +3,7 @@ ghost use mathlib.Core.Path.{_≡_};
 ghost use Prim.Native.Nat.{_≤_};
 ghost use Rattle.std.specs.Vec.{made};
 ghost use Rattle.std.specs.shelf.Text.{sameBytes};
-ghost use Rattle.texts.specs.Due.{limited, number, line-end-due, exactly, ended, one, leaving};
+ghost use Rattle.texts.specs.Due.{limited, number, line-end-due, exact, exactly, ended, one, leaving};
 ghost use Rattle.texts.specs.Lexemes.{ahead};
 use super::Token;
 use super::Words;
@@ -25,6 +25,17 @@ pub fn limited(word: &[u8], place: usize, low: u16, high: u16) -> Result<u16, Te
         None => Err(TextFault::Shape(place)),
         Some(n) if low as u32 <= n && n <= high as u32 => Ok(n as u16),
         Some(_) => Err(TextFault::Limit(place)),
+    }
+}
+
+// Whether the word at that place is the word `due`.
+pub fn exact(word: &[u8], place: usize, due: &[u8]) -> Result<(), TextFault>
+    ensures value { λ r. ⌜ r ≡ exact (now (due .entry)) (now (word .entry)) place ⌝ }
+{
+    if same_bytes(word, due) {
+        Ok(())
+    } else {
+        Err(TextFault::Shape(place))
     }
 }
 
@@ -55,13 +66,7 @@ impl<'a> Words<'a> {
         ensures reads { λ r. ⌜ one (exactly (now (due .entry))) (ahead (now (self .entry))) ≡ leaving r (ahead (now (self .exit))) ⌝ }
     {
         match self.next() {
-            Token::Word(word, at) => {
-                if same_bytes(word, due) {
-                    Ok(())
-                } else {
-                    Err(TextFault::Shape(at))
-                }
-            }
+            Token::Word(word, at) => exact(word, at, due),
             Token::LineEnd(at) | Token::End(at) => Err(TextFault::Shape(at)),
         }
     }

@@ -3,6 +3,7 @@ mod cut;
 mod decimal;
 mod due;
 
+pub use due::exact;
 pub use due::limited;
 
 // What stands next in a text, with the place of its first byte; places count from 0.
