@@ -1,3 +1,4 @@
 pub mod Literals
 pub mod Cnf
 pub mod Reader
+pub mod Grammar
