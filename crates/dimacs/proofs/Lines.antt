@@ -16,19 +16,10 @@ use Rattle.literals.specs.declared.LiteralSet.{LiteralSet}
 use Rattle.literals.specs.Literals.{with-literal}
 use Rattle.texts.specs.Lexemes.{Lexeme}
 use Rattle.texts.specs.Due.{leaving, and-then, one}
+use Rattle.texts.proofs.Dues.{judged}
 use Rattle.dimacs.specs.Literals.{Up-to, literal}
 use Rattle.dimacs.specs.Cnf.{is-zero, literals}
 use Rattle.dimacs.specs.Reader.{set-line-from}
-
-abbrev from-ok : {A : Type 0} → A → Result A TextFault → A
-from-ok d (Ok x) = x
-from-ok d (Err e) = d
-
--- a lexeme that gives a value leaves those behind it
-one-ok : {A : Type 0} (ts rest : List Lexeme) (l : A) (r : Result A TextFault) → leaving r ts ≡ Ok (l, rest) → (r ≡ Ok l) × (ts ≡ rest)
-one-ok {A} ts rest l (Ok x) e =
-    (ap (λ (y : Result (A × List Lexeme) TextFault). Ok (from-ok (l, rest) y .0)) e, ap (λ (y : Result (A × List Lexeme) TextFault). from-ok (l, rest) y .1) e)
-one-ok ts rest l (Err x) e = absurd (let z : _≡_ {A = ℕ} 0 1 = cc in omega arith)
 
 one-err : {A : Type 0} (ts : List Lexeme) (f : TextFault) (r : Result A TextFault) → leaving r ts ≡ Err f → r ≡ Err f
 one-err ts f (Ok x) e = absurd (let z : _≡_ {A = ℕ} 0 1 = cc in omega arith)
@@ -48,12 +39,11 @@ gathered-more s l (Err x) = refl
 
 module _ (V : ℕ) where
   pub line-step : (s : LiteralSet) (ts rest : List Lexeme) (l : ℤ) → one (literal V) ts ≡ Ok (l, rest) → is-zero l ≡ false → set-line-from V s ts ≡ set-line-from V (with-literal s l) rest
-  line-step s [] rest l e z = absurd (let z : _≡_ {A = ℕ} 0 1 = cc in omega arith)
-  line-step s (t ∷ ts) rest l e z =
-      let q = one-ok ts rest l (literal V t) e in
-      ap (gathered s) (ap (onward V ts) (q .0) ∙ cond-false (is-zero l) _ _ z)
-      ∙ gathered-more s l (literals V ts)
-      ∙ ap (set-line-from V (with-literal s l)) (q .1)
+  line-step s ts rest l e z =
+      let q = judged (literal V) ts (l, rest) e in
+      ap (set-line-from V s) (q .1)
+      ∙ ap (gathered s) (ap (onward V rest) (q .2) ∙ cond-false (is-zero l) _ _ z)
+      ∙ gathered-more s l (literals V rest)
 
   pub line-fault : (s : LiteralSet) (ts : List Lexeme) (f : TextFault) → one (literal V) ts ≡ Err f → set-line-from V s ts ≡ Err f
   line-fault s [] f e = cc

@@ -13,13 +13,10 @@ use Rattle.literals.specs.declared.LiteralSet.{LiteralSet}
 use Rattle.literals.specs.Literals.{set-of}
 use Rattle.texts.specs.Lexemes.{Lexeme}
 use Rattle.texts.specs.Due.{and-then, ended}
+use Rattle.texts.proofs.Dues.{from-ok}
 use Rattle.dimacs.specs.Cnf.{Cnf, Heading, heading, rule, body, cnf}
 use Rattle.dimacs.specs.Reader.{rule-set}
 use Rattle.dimacs_load.specs.Loads.{verdict, sized, laid-from, Room}
-
-abbrev from-ok : {A : Type 0} → A → Result A TextFault → A
-from-ok d (Ok x) = x
-from-ok d (Err e) = d
 
 -- a rule's line as a set of literals
 abbrev as-set : Result ((List ℤ × ℕ) × List Lexeme) TextFault → Result ((LiteralSet × ℕ) × List Lexeme) TextFault

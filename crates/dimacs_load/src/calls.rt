@@ -2,6 +2,7 @@
 ghost use mathlib.Core.Path.{_≡_};
 ghost use lib.ListN.{length};
 ghost use Rattle.dimacs.specs.Cnf.{read-cnf};
+ghost use Rattle.dimacs.specs.Grammar.{Reads-just};
 ghost use Rattle.dimacs_load.specs.Loads.{measured, roomy, loaded, store-after};
 use super::Size;
 use crate::passes::fill;
@@ -30,8 +31,8 @@ fn room(count: usize, records: usize) -> Result<(), StoreFault>
     }
 }
 
-// Loads the text for n contacts. A refusal leaves the store as it was.
-pub fn load(text: &[u8], n: usize, store: &mut [LiteralSet]) -> Result<Size, SheetFault>
+// Puts the questions in their order, and lays the rules into the store.
+fn lay(text: &[u8], n: usize, store: &mut [LiteralSet]) -> Result<Size, SheetFault>
     ensures answer { λ r. ⌜ r ≡ loaded n (length (now (store .entry))) (read-cnf (now (text .entry))) ⌝ }
     ensures store { λ r. ⌜ now (store .exit) ≡ store-after r (read-cnf (now (text .entry))) (now (store .entry)) ⌝ }
 {
@@ -42,4 +43,13 @@ pub fn load(text: &[u8], n: usize, store: &mut [LiteralSet]) -> Result<Size, She
     room(size.count, store.len())?;
     fill(text, store);
     Ok(size)
+}
+
+// Loads the text for n contacts. A refusal leaves the store as it was.
+pub fn load(text: &[u8], n: usize, store: &mut [LiteralSet]) -> Result<Size, SheetFault>
+    ensures answer { λ r. ⌜ r ≡ loaded n (length (now (store .entry))) (read-cnf (now (text .entry))) ⌝ }
+    ensures store { λ r. ⌜ now (store .exit) ≡ store-after r (read-cnf (now (text .entry))) (now (store .entry)) ⌝ }
+    ensures reads { λ _. ⌜ Reads-just (now (text .entry)) ⌝ }
+{
+    lay(text, n, store)
 }
