@@ -97,9 +97,14 @@ module _ (V : ℕ) (v : V < 2 ^ 64) where
       let s = first-then (body V n (a .0 .1) (a .1)) (λ ss. Ok (a .0 .0 ∷ ss)) rs (r .2) in
       let one = rule-is ts a (r .1) in
       let more = body-is n (a .0 .1) (a .1) (s .0) (s .1) in
-      given (Body-read (suc n) b ts) (a .0 .0 ∷ s .0) rs (s .2)
-        (ap suc (more .0), (one .0, more .1), more .2, more .3,
-         (one .1, a .1, one .2, subst (λ m. Lines (map rule-words (s .0)) m (a .1) (more .2) (more .3)) (sym (one .3)) (more .4)), more .5)
+      given (Body-read (suc n) b ts) (a .0 .0 ∷ s .0) rs (s .2) (
+        ap suc (more .0),
+        (one .0, more .1),
+        more .2,
+        more .3,
+        (one .1, a .1, one .2, subst (λ m. Lines (map rule-words (s .0)) m (a .1) (more .2) (more .3)) (sym (one .3)) (more .4)),
+        more .5,
+      )
 
 -- comment lines and the word p
 abbrev Comments-and-p : List Lexeme → List Lexeme → Type 0
@@ -150,15 +155,37 @@ heading-is ts a e =
     let g₄ = number-is 0 4096 (j₄ .0) (r₄ .0 .0) (omega arith) (j₄ .2) in
     let j₅ = judged line-end-due (r₄ .0 .1) (r₅ .0) (r₅ .1) in
     let g₅ = line-end-is (j₅ .0) (r₅ .0 .0) (j₅ .2) in
-    given (Heading-read ts) ((r₃ .0 .0, r₄ .0 .0, r₅ .0 .0), r₅ .0 .1) a (r₅ .2)
-      (o .0, o .1, o .2, word (codes "p") (o .3) ∷ r₁ .0 .1, o .4,
-       (g₅ .0, r₅ .0 .1,
-        (o .3, r₁ .0 .1, refl,
-         (g₂ .0, r₂ .0 .1, j₂ .1 ∙ ap (λ x. x ∷ r₂ .0 .1) (g₂ .1),
-          (g₃ .0, r₃ .0 .1, j₃ .1 ∙ ap (λ x. x ∷ r₃ .0 .1) (g₃ .1),
-           (g₄ .0, r₄ .0 .1, j₄ .1 ∙ ap (λ x. x ∷ r₄ .0 .1) (g₄ .1), j₅ .1 ∙ ap (λ x. x ∷ r₅ .0 .1) (g₅ .1))))),
-        (sym (g₅ .2), refl)),
-       g₃ .2, g₃ .3, g₄ .3)
+    given (Heading-read ts) ((r₃ .0 .0, r₄ .0 .0, r₅ .0 .0), r₅ .0 .1) a (r₅ .2) (
+      o .0,
+      o .1,
+      o .2,
+      word (codes "p") (o .3) ∷ r₁ .0 .1,
+      o .4,
+      (
+        g₅ .0,
+        r₅ .0 .1,
+        (
+          o .3,
+          r₁ .0 .1,
+          refl,
+          (
+            g₂ .0,
+            r₂ .0 .1,
+            j₂ .1 ∙ ap (λ x. x ∷ r₂ .0 .1) (g₂ .1),
+            (
+              g₃ .0,
+              r₃ .0 .1,
+              j₃ .1 ∙ ap (λ x. x ∷ r₃ .0 .1) (g₃ .1),
+              (g₄ .0, r₄ .0 .1, j₄ .1 ∙ ap (λ x. x ∷ r₄ .0 .1) (g₄ .1), j₅ .1 ∙ ap (λ x. x ∷ r₅ .0 .1) (g₅ .1)),
+            ),
+          ),
+        ),
+        (sym (g₅ .2), refl),
+      ),
+      g₃ .2,
+      g₃ .3,
+      g₄ .3,
+    )
 
 -- and the other way: lines that spell it are read as it
 module _ (V : ℕ) (v : V ≤ 64) where
@@ -252,7 +279,7 @@ module _ (text : List ℕ) where
         behind = rest .2;
         rest = rest .3;
         lines = lines-join (head .0) (cnf-lines (record { vars = h .0 .0; rules = s .0 })) 0 (head .2) (rest .2) ts (head .3) (rest .3) (head .4)
-          (subst (λ n. Lines (heading-words (h .0 .0) n ∷ map rule-words (s .0)) (head .2) (head .3) (rest .2) (rest .3)) (sym (rest .0))
+            (subst (λ n. Lines (heading-words (h .0 .0) n ∷ map rule-words (s .0)) (head .2) (head .3) (rest .2) (rest .3)) (sym (rest .0))
             (lines-join (heading-words (h .0 .0) (h .0 .1) ∷ []) (map rule-words (s .0)) (head .2) (h .0 .2) (rest .2) (head .3) (h .1) (rest .3) (head .5) (rest .4)));
         ends-behind = rest .5;
       })

@@ -34,7 +34,7 @@ listed-named V k zero s h = tt
 listed-named V k (suc n) s h =
     let lt = lt-ltb k V (omega arith) in
     all-append (Named V) (when (has s k true) (pos (suc k))) (when (has s k false) (negsuc k) ++ listed-from (suc k) n s) (all-when (Named V) (has s k true) (pos (suc k)) lt)
-      (all-append (Named V) (when (has s k false) (negsuc k)) (listed-from (suc k) n s) (all-when (Named V) (has s k false) (negsuc k) lt) (listed-named V (suc k) n s (omega arith)))
+    (all-append (Named V) (when (has s k false) (negsuc k)) (listed-from (suc k) n s) (all-when (Named V) (has s k false) (negsuc k) lt) (listed-named V (suc k) n s (omega arith)))
 
 -- one bit more of x
 bit-step : (x k : ℕ) → x % 2 ^ suc k ≡ (x / 2 ^ k % 2) * 2 ^ k + x % 2 ^ k
@@ -177,15 +177,15 @@ inserted-weight V s (pos zero) = omega arith
 inserted-weight V s (pos (suc j)) =
     let t = inserted s (pos (suc j)) in
     heavier s t j (length (signed (pos (suc j))) + 1)
-      (λ k ne. ap (λ b. weigh b (pos (suc k)) + weigh (has s k false) (negsuc k)) (bit-elsewhere (s .closed) j k ne))
-      (let most = weigh-most (has t j true) (pos (suc j)) in omega arith)
-      0 V
+    (λ k ne. ap (λ b. weigh b (pos (suc k)) + weigh (has s k false) (negsuc k)) (bit-elsewhere (s .closed) j k ne))
+    (let most = weigh-most (has t j true) (pos (suc j)) in omega arith)
+    0 V
 inserted-weight V s (negsuc j) =
     let t = inserted s (negsuc j) in
     heavier s t j (length (signed (negsuc j)) + 1)
-      (λ k ne. ap (λ b. weigh (has s k true) (pos (suc k)) + weigh b (negsuc k)) (bit-elsewhere (s .opened) j k ne))
-      (let most = weigh-most (has t j false) (negsuc j) in omega arith)
-      0 V
+    (λ k ne. ap (λ b. weigh (has s k true) (pos (suc k)) + weigh b (negsuc k)) (bit-elsewhere (s .opened) j k ne))
+    (let most = weigh-most (has t j false) (negsuc j) in omega arith)
+    0 V
 
 with-weight : (V : ℕ) (s : LiteralSet) (l : ℤ) (b : Bool) → weight (listed V (cond b (inserted s l) s)) ≤ weight (listed V s) + (length (signed l) + 1)
 with-weight V s l true = inserted-weight V s l

@@ -75,12 +75,25 @@ heading-line : (V C : ℕ) (rest : List ℕ) → V ≤ 64 → C ≤ 4096 → (q 
 heading-line V C rest b c =
     let p = 6 + length (decimal V) + 1 in
     let bs = decimal C ++ (10 ∷ rest) in
-    let q = p + length (decimal C) in
-    (q,
-     (0, word (codes "cnf") 2 ∷ lexemes 6 (decimal V ++ (32 ∷ bs)), head-lexemes (decimal V ++ (32 ∷ bs)),
-      (2, lexemes 6 (decimal V ++ (32 ∷ bs)), refl,
-       (6, lexemes p bs, spaced (decimal V) bs 6 (decimal-some V (omega arith)) (solid-decimal V (omega arith)),
-        (p, line-end q ∷ lexemes (q + 1) rest, fed (decimal C) rest p (decimal-some C (omega arith)) (solid-decimal C (omega arith)), refl)))))
+    let q = p + length (decimal C) in (
+      q,
+      (
+        0,
+        word (codes "cnf") 2 ∷ lexemes 6 (decimal V ++ (32 ∷ bs)),
+        head-lexemes (decimal V ++ (32 ∷ bs)),
+        (
+          2,
+          lexemes 6 (decimal V ++ (32 ∷ bs)),
+          refl,
+          (
+            6,
+            lexemes p bs,
+            spaced (decimal V) bs 6 (decimal-some V (omega arith)) (solid-decimal V (omega arith)),
+            (p, line-end q ∷ lexemes (q + 1) rest, fed (decimal C) rest p (decimal-some C (omega arith)) (solid-decimal C (omega arith)), refl),
+          ),
+        ),
+      ),
+    )
 
 -- the text of rules over V variables reads as those rules, unless it is too long for a text
 pub reads-back : (c : Cnf) → Well-formed c → length (cnf-text (c .vars) (c .rules)) ≤ 60000 → read-cnf (cnf-text (c .vars) (c .rules)) ≡ Ok c

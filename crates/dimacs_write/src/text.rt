@@ -1,12 +1,15 @@
 // Puts rules and whole texts.
 ghost use mathlib.Core.Path.{_≡_};
-ghost use mathlib.Core.List.{_++_};
-ghost use Prim.Native.Nat.{_+_, _^_, _≤_, _<_};
+ghost use mathlib.Core.List.{List};
+ghost use Prim.Native.Nat.{ℕ, _+_, _^_, _≤_, _<_};
 ghost use lib.ListN.{length};
+ghost use Rattle.std.specs.declared.result.Result.the-variants.{Ok};
+ghost use Rattle.dimacs.specs.Cnf.{read-cnf};
 ghost use Rattle.literals.specs.Bits.{bit};
 ghost use Rattle.literals.specs.Literals.{listed};
+ghost use Rattle.dimacs_write.specs.Laws.{as-sets, Reads-back, Written-again};
 ghost use Rattle.dimacs_write.specs.Puts.{over, variable-text, written-over};
-ghost use Rattle.dimacs_write.specs.Texts.{rule-text, rules-text, set-texts, set-text, written};
+ghost use Rattle.dimacs_write.specs.Texts.{rule-text, set-texts, set-text, written, buffer-after};
 use crate::bytes::put_bytes;
 use crate::bytes::put_if;
 use crate::bytes::put_number;
@@ -95,6 +98,9 @@ fn put_whole(out: &mut [u8], rules: &[LiteralSet], vars: usize) -> Result<usize,
 // Writes the rules as a clause text at the buffer's front, and tells its length; a refusal leaves the buffer as it was.
 pub fn write(vars: usize, rules: &[LiteralSet], out: &mut [u8]) -> Result<usize, SheetFault>
     ensures answer { λ r. ⌜ r ≡ written vars (now (rules .entry)) (length (now (out .entry))) ⌝ }
+    ensures buffer { λ r. ⌜ now (out .exit) ≡ buffer-after r (set-text vars (now (rules .entry))) (now (out .entry)) ⌝ }
+    ensures back { λ r. ⌜ Reads-back vars (now (rules .entry)) r (now (out .exit)) ⌝ }
+    ensures again { λ _. ⌜ ((text : List ℕ) → as-sets (read-cnf text) ≡ Ok (vars, now (rules .entry)) → Written-again vars (now (rules .entry)) text) ⌝ }
 {
     put_whole(out, rules, vars)
 }

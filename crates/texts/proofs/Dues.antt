@@ -66,10 +66,10 @@ one-way w h lt =
     let inner = and-parts (allDigits w) _ (outer .1) in
     let some = ltb-true 0 (length w) (outer .0) in
     let single : getD w 0 0 ≡ 48 → length w ≡ 1 = λ z.
-        ⊎-elim
-        (λ more. absurd (both-ways _ (not-true _ (inner .1)) (and-from _ _ (lt-ltb 1 (length w) more) (eq-eqb _ 48 z))))
-        (λ le. omega arith)
-        (cases-lt 1 (length w)) in
+    ⊎-elim
+    (λ more. absurd (both-ways _ (not-true _ (inner .1)) (and-from _ _ (lt-ltb 1 (length w) more) (eq-eqb _ 48 z))))
+    (λ le. omega arith)
+    (cases-lt 1 (length w)) in
     decimal-value own w (inner .0) some single lt
 
 same-bytes : (xs ys : List ℕ) → sameBytes xs ys ≡ true → xs ≡ ys
