@@ -1,43 +1,28 @@
 -- A text reads as what its lines spell, and as nothing else.
 use mathlib.Core.Path.{_≡_, refl, sym, ap, subst, _∙_}
 use mathlib.Core.Bool.{Bool, true, false, cond}
-use mathlib.Core.List.{List, [], _∷_, _++_, map}
+use mathlib.Core.List.{List, [], _∷_, map}
 use Prim.Native.Nat.{ℕ, zero, suc, _+_, _^_, _≤_, _<_}
 use native.Mathlib.Omega.{arith}
 use lib.Chars.{codes}
-use lib.Dec.{eqb, ltb}
-use lib.IntN.{ℤ, pos}
+use lib.Dec.{eqb}
+use lib.IntN.{ℤ}
 use lib.ListN.{length, getD}
 use Rattle.std.specs.declared.result.Result.{Result}
-use Rattle.std.specs.declared.result.Result.the-variants.{Ok, Err}
-use Rattle.std.specs.Written.{decimal, signed}
+use Rattle.std.specs.declared.result.Result.the-variants.{Ok}
 use Rattle.std.specs.shelf.Lists.{All}
-use Rattle.std.proofs.shelf.Tests.{cond-true, cond-false, eq-eqb, eqb-true, le-ltb, ltb-false}
+use Rattle.std.proofs.shelf.Tests.{cond-true, cond-false, eq-eqb, eqb-true}
 use Rattle.faults.specs.declared.TextFault.{TextFault}
-use Rattle.faults.specs.declared.TextFault.the-variants.{Shape, Limit}
 use Rattle.texts.specs.Lexemes.{Lexeme, word, line-end, end, lexemes-from}
-use Rattle.texts.specs.Due.{leaving, and-then, one, number, line-end-due, exactly, ended}
-use Rattle.texts.proofs.Dues.{from-ok, first-then, judged, number-is, exactly-is, line-end-is, number-ok}
+use Rattle.texts.specs.Lines.{Words, Lines, Ends}
+use Rattle.texts.specs.Due.{length-due, leaving, and-then, one, number, line-end-due, exactly, ended}
+use Rattle.texts.proofs.Spellings.{lines-join, lines-split, given, ended-is, ended-ok, short-is, short-ok}
+use Rattle.texts.proofs.Dues.{first-then, judged, number-is, exactly-is, line-end-is, number-ok}
 use Rattle.dimacs.specs.Literals.{literal}
 use Rattle.dimacs.specs.Cnf.{comment, opening, Heading, heading, is-zero, literals, rule, body, Cnf, cnf, read-cnf}
-use Rattle.dimacs.specs.Grammar.{Words, Lines, Ends, Comment, heading-words, rule-words, cnf-lines, Well-formed, Spelled, Reads-just}
+use Rattle.dimacs.specs.Grammar.{Comment, heading-words, rule-words, cnf-lines, Spelled, Reads-just}
 use Rattle.dimacs.proofs.Lines.{onward}
 use Rattle.dimacs.proofs.Literals.{Named, literal-is, named-from, zero-word, literal-ok, zero-ok, named-some}
-
--- lines and then more lines
-lines-join : (xs ys : List (List (List ℕ))) (a m b : ℕ) (ts us rest : List Lexeme) → Lines xs a ts m us → Lines ys m us b rest → Lines (xs ++ ys) a ts b rest
-lines-join [] ys a m b ts us rest h k = subst (λ n. Lines ys n ts b rest) (sym (h .0)) (subst (λ l. Lines ys m l b rest) (sym (h .1)) k)
-lines-join (ws ∷ xs) ys a m b ts us rest h k = (h .0, h .1, h .2, lines-join xs ys (h .0 + 1) m b (h .1) us rest (h .3) k)
-
-pub lines-split : (xs ys : List (List (List ℕ))) (a b : ℕ) (ts rest : List Lexeme) → Lines (xs ++ ys) a ts b rest → (m : ℕ) × (us : List Lexeme) × Lines xs a ts m us × Lines ys m us b rest
-lines-split [] ys a b ts rest h = (a, ts, (refl, refl), h)
-lines-split (ws ∷ xs) ys a b ts rest h =
-    let q = lines-split xs ys (h .0 + 1) b (h .1) rest (h .3) in
-    (q .0, q .1, (h .0, h .1, h .2, q .2), q .3)
-
--- the value of a reading
-given : {A : Type 0} (P : A → Type 0) (x a : A) → _≡_ {A = Result A TextFault} (Ok x) (Ok a) → P x → P a
-given {A} P x a e h = subst P (ap (λ (y : Result A TextFault). from-ok x y) e) h
 
 module _ (V : ℕ) (v : V < 2 ^ 64) where
   abbrev Line-read : List Lexeme → List ℤ × List Lexeme → Type 0
@@ -73,16 +58,6 @@ module _ (V : ℕ) (v : V < 2 ^ 64) where
       let line = line-is ts b (r .1) in
       let after = j .1 ∙ ap (λ t. t ∷ f .1) (g .1) in
       given (Rule-read ts) ((b .0, f .0), f .1) a (s .2) (line .0, g .0, subst (Words (rule-words (b .0)) ts) after (line .1), sym (g .2))
-
-  ended-is : (b : ℕ) (ts : List Lexeme) (u : Unit {0}) → ended b ts ≡ Ok u → Ends b ts
-  ended-is b [] u e = absurd (let z : _≡_ {A = ℕ} 0 1 = cc in omega arith)
-  ended-is b (word w p ∷ ts) u e = absurd (let z : _≡_ {A = ℕ} 0 1 = cc in omega arith)
-  ended-is b (line-end p ∷ ts) u e = absurd (let z : _≡_ {A = ℕ} 0 1 = cc in omega arith)
-  ended-is b (end p ∷ ts) u e = go (eqb p b) refl e
-    where
-      go : (t : Bool) → eqb p b ≡ t → _≡_ {A = Result (Unit {0}) TextFault} (cond t (Ok tt) (Err (Shape p))) (Ok u) → p ≡ b
-      go true h e = eqb-true p b h
-      go false h e = absurd (let z : _≡_ {A = ℕ} 0 1 = cc in omega arith)
 
   abbrev Body-read : ℕ → ℕ → List Lexeme → List (List ℤ) → Type 0
   Body-read n b ts rs = (length rs ≡ n) × All (All (Named V)) rs × (e : ℕ) × (rest : List Lexeme) × Lines (map rule-words rs) b ts e rest × Ends e rest
@@ -200,12 +175,6 @@ module _ (V : ℕ) (v : V ≤ 64) where
   rule-ok : (ls : List ℤ) (q : ℕ) (ts us : List Lexeme) → All (Named V) ls → Words (rule-words ls) ts (line-end q ∷ us) → rule V ts ≡ Ok ((ls, q + 1), us)
   rule-ok ls q ts us h w = ap (λ r. and-then r (λ a. and-then (one line-end-due (a .1)) (λ f. Ok ((a .0, f .0), f .1)))) (line-ok ls ts (line-end q ∷ us) h w)
 
-  ended-ok : (b : ℕ) (ts : List Lexeme) → Ends b ts → ended b ts ≡ Ok tt
-  ended-ok b [] h = absurd h
-  ended-ok b (word w p ∷ ts) h = absurd h
-  ended-ok b (line-end p ∷ ts) h = absurd h
-  ended-ok b (end p ∷ ts) h = cond-true (eqb p b) _ _ (eq-eqb p b h)
-
   body-ok : (rs : List (List ℤ)) (a b : ℕ) (ts rest : List Lexeme) → All (All (Named V)) rs → Lines (map rule-words rs) a ts b rest → Ends b rest → body V (length rs) a ts ≡ Ok rs
   body-ok [] a b ts rest h l e =
       ap (λ n. and-then (ended n ts) (λ _. Ok [])) (l .0) ∙ ap (λ us. and-then (ended b us) (λ _. Ok [])) (l .1) ∙ ap (λ r. and-then r (λ _. Ok [])) (ended-ok b rest e)
@@ -285,11 +254,9 @@ module _ (text : List ℕ) where
       })
 
   sound : (c : Cnf) → read-cnf text ≡ Ok c → Spelled text c
-  sound c e = go (ltb 60000 (length text)) refl e
-    where
-      go : (b : Bool) → ltb 60000 (length text) ≡ b → cond b (Err (Limit 60000)) (cnf (lexemes-from 0 text)) ≡ Ok c → Spelled text c
-      go true h e = absurd (let z : _≡_ {A = ℕ} 0 1 = cc in omega arith)
-      go false h e = spelled-from (ltb-false 60000 (length text) h) c e
+  sound c e =
+      let r = first-then (length-due text) (λ _. cnf (lexemes-from 0 text)) c e in
+      spelled-from (short-is text (r .0) (r .1)) c (r .2)
 
   complete : (c : Cnf) → Spelled text c → read-cnf text ≡ Ok c
   complete c s =
@@ -299,7 +266,7 @@ module _ (text : List ℕ) where
       let good = s .well-formed in
       let first = lines-split (s .comments) (cnf-lines c) 0 (s .behind) ts (s .rest) (s .lines) in
       let second = lines-split (heading-words V C ∷ []) (map rule-words (c .rules)) (first .0) (s .behind) (first .1) (s .rest) (first .3) in
-      cond-false (ltb 60000 (length text)) _ _ (le-ltb 60000 (length text) (s .short))
+      ap (λ r. and-then r (λ _. cnf (lexemes-from 0 text))) (short-ok text (s .short))
       ∙ ap then-body (heading-ok (s .comments) V C (first .0) (second .0) ts (first .1) (second .1) (s .comments-begin-with-c) (good .some-variable) (good .few-variables) (good .few-rules) (first .2) (second .2))
       ∙ ap (λ r. and-then r (λ rs. Ok (record { vars = V; rules = rs }))) (body-ok V (good .few-variables) (c .rules) (second .0) (s .behind) (second .1) (s .rest) (good .named) (second .3) (s .ends-behind))
 

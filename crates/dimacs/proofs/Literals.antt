@@ -5,20 +5,20 @@ use mathlib.Core.List.{List, [], _∷_}
 use Prim.Native.Nat.{ℕ, zero, suc, _^_, _≤_, _<_}
 use native.Mathlib.Omega.{arith}
 use lib.Chars.{codes}
-use lib.Dec.{eqb, ltb}
+use lib.Dec.{eqb}
 use lib.IntN.{ℤ, pos, negsuc}
-use lib.ListN.{length, getD, drop}
+use lib.ListN.{getD, drop}
 use Rattle.std.specs.declared.result.Result.{Result}
-use Rattle.std.specs.declared.result.Result.the-variants.{Ok, Err}
+use Rattle.std.specs.declared.result.Result.the-variants.{Ok}
 use Rattle.std.specs.Written.{decimal, signed}
 use Rattle.std.proofs.shelf.Decimals.{first-decimal, decimal-digit}
-use Rattle.std.proofs.shelf.Tests.{cond-true, cond-false, ne-eqb, eqb-true, ltb-true, lt-ltb, both-ways}
+use Rattle.std.proofs.shelf.Tests.{cond-false, ne-eqb, eqb-true, ltb-true, lt-ltb, both-ways}
 use Rattle.faults.specs.declared.TextFault.{TextFault}
 use Rattle.literals.specs.Literals.{names}
 use Rattle.texts.specs.Lexemes.{Lexeme, word, line-end, end}
 use Rattle.texts.specs.Due.{and-then, limited}
 use Rattle.texts.proofs.Dues.{from-ok, first-then, limited-is, one-way, number-ok}
-use Rattle.dimacs.specs.Literals.{Up-to, minus, negated, signed as signed-word, literal}
+use Rattle.dimacs.specs.Literals.{Up-to, minus, negated, literal}
 use Rattle.dimacs.specs.Cnf.{is-zero}
 
 -- a literal names one of V variables

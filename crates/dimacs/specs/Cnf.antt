@@ -3,15 +3,15 @@ use mathlib.Core.Bool.{Bool, true, false, cond}
 use mathlib.Core.List.{List, [], _∷_}
 use Prim.Native.Nat.{ℕ, zero, suc}
 use lib.Chars.{codes}
-use lib.Dec.{eqb, ltb}
+use lib.Dec.{eqb}
 use lib.IntN.{ℤ, pos, negsuc}
-use lib.ListN.{length, getD}
+use lib.ListN.{getD}
 use Rattle.std.specs.declared.result.Result.{Result}
 use Rattle.std.specs.declared.result.Result.the-variants.{Ok, Err}
 use Rattle.faults.specs.declared.TextFault.{TextFault}
-use Rattle.faults.specs.declared.TextFault.the-variants.{Shape, Limit}
+use Rattle.faults.specs.declared.TextFault.the-variants.{Shape}
 use Rattle.texts.specs.Lexemes.{Lexeme, word, line-end, end, lexemes-from}
-use Rattle.texts.specs.Due.{leaving, and-then, one, number, line-end-due, exactly, ended}
+use Rattle.texts.specs.Due.{length-due, leaving, and-then, one, number, line-end-due, exactly, ended}
 use Rattle.dimacs.specs.Literals.{literal}
 
 -- a line is a comment when its first word begins with c
@@ -73,4 +73,4 @@ cnf ts =
 
 -- the reading of a clause text: one of more than 60,000 bytes is refused before all else
 abbrev pub read-cnf : List ℕ → Result Cnf TextFault
-read-cnf text = cond (ltb 60000 (length text)) (Err (Limit 60000)) (cnf (lexemes-from 0 text))
+read-cnf text = and-then (length-due text) (λ _. cnf (lexemes-from 0 text))

@@ -2,7 +2,7 @@
 use mathlib.Core.Path.{_≡_}
 use mathlib.Core.Bool.{true}
 use mathlib.Core.List.{List, [], _∷_, _++_, map}
-use Prim.Native.Nat.{ℕ, _+_, _≤_}
+use Prim.Native.Nat.{ℕ, _≤_}
 use lib.Chars.{codes}
 use lib.IntN.{ℤ}
 use lib.ListN.{length, getD}
@@ -10,25 +10,9 @@ use Rattle.std.specs.declared.result.Result.the-variants.{Ok}
 use Rattle.std.specs.Written.{decimal, signed}
 use Rattle.std.specs.shelf.Lists.{All}
 use Rattle.literals.specs.Literals.{names}
-use Rattle.texts.specs.Lexemes.{Lexeme, word, line-end, end, lexemes-from}
+use Rattle.texts.specs.Lexemes.{Lexeme, lexemes-from}
+use Rattle.texts.specs.Lines.{Lines, Ends}
 use Rattle.dimacs.specs.Cnf.{Cnf, read-cnf}
-
--- ts begins with these words, and goes on with rest
-abbrev pub Words : List (List ℕ) → List Lexeme → List Lexeme → Type 0
-Words [] ts rest = ts ≡ rest
-Words (w ∷ ws) ts rest = (p : ℕ) × (us : List Lexeme) × (ts ≡ word w p ∷ us) × Words ws us rest
-
--- ts begins with lines of these words, and goes on with rest; a and b are the places behind the line feeds before and after them
-abbrev pub Lines : List (List (List ℕ)) → ℕ → List Lexeme → ℕ → List Lexeme → Type 0
-Lines [] a ts b rest = (a ≡ b) × (ts ≡ rest)
-Lines (ws ∷ lines) a ts b rest = (q : ℕ) × (us : List Lexeme) × Words ws ts (line-end q ∷ us) × Lines lines (q + 1) us b rest
-
--- the end of the text is what comes, at place b
-abbrev pub Ends : ℕ → List Lexeme → Type 0
-Ends b [] = ⊥
-Ends b (word w p ∷ ts) = ⊥
-Ends b (line-end p ∷ ts) = ⊥
-Ends b (end p ∷ ts) = p ≡ b
 
 -- a comment's first word begins with c
 abbrev pub Comment : List (List ℕ) → Type 0

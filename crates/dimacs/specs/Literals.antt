@@ -1,5 +1,5 @@
 -- The literals of a clause text: k and −k for a variable k from 1 to V, and the closing 0.
-use mathlib.Core.Bool.{Bool, cond}
+use mathlib.Core.Bool.{cond}
 use mathlib.Core.List.{List}
 use Prim.Native.Nat.{ℕ, zero, suc, _≤_, _<_}
 use lib.Dec.{eqb}
@@ -8,7 +8,7 @@ use lib.ListN.{getD, drop}
 use Rattle.std.specs.declared.result.Result.{Result}
 use Rattle.std.specs.declared.result.Result.the-variants.{Ok, Err}
 use Rattle.faults.specs.declared.TextFault.{TextFault}
-use Rattle.faults.specs.declared.TextFault.the-variants.{Shape, Limit}
+use Rattle.faults.specs.declared.TextFault.the-variants.{Shape}
 use Rattle.texts.specs.Lexemes.{Lexeme, word, line-end, end}
 use Rattle.texts.specs.Due.{and-then, limited}
 

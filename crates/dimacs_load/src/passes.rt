@@ -10,8 +10,7 @@ use dimacs::Opening;
 use dimacs::Rules;
 use faults::TextFault;
 use literals::LiteralSet;
-
-const LONGEST: usize = 60_000;
+use texts::check_length;
 
 // Reads all the rules and the end.
 fn read_through(mut rules: Rules) -> Result<(), TextFault>
@@ -28,9 +27,7 @@ fn read_through(mut rules: Rules) -> Result<(), TextFault>
 pub fn survey(text: &[u8]) -> Result<Size, TextFault>
     ensures reads { λ r. ⌜ r ≡ sized (read-cnf (now (text .entry))) ⌝ }
 {
-    if text.len() > LONGEST {
-        return Err(TextFault::Limit(LONGEST));
-    }
+    check_length(text)?;
     let rules = Opening::new(text).heading()?;
     let vars = rules.vars() as usize;
     let count = rules.count() as usize;

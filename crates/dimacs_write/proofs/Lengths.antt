@@ -1,21 +1,21 @@
 -- A text is at least as long as what its lines spell.
-use mathlib.Core.Path.{_≡_, refl, sym, ap, subst, _∙_}
+use mathlib.Core.Path.{_≡_, refl, ap, _∙_}
 use mathlib.Core.Bool.{Bool, true, false, cond, _||_}
 use mathlib.Core.List.{List, [], _∷_, _++_, map}
-use Prim.Native.Nat.{ℕ, zero, suc, _+_, _≤_, _<_}
+use Prim.Native.Nat.{ℕ, _+_, _≤_}
 use native.Mathlib.Omega.{arith}
 use lib.Chars.{codes}
 use lib.Dec.{eqb}
 use lib.IntN.{ℤ}
 use lib.ListN.{length, length-append, length-map}
-use Rattle.std.specs.declared.result.Result.the-variants.{Ok}
 use Rattle.std.specs.Written.{decimal, signed}
 use Rattle.std.proofs.shelf.Tests.{not-false, both-ways}
 use Rattle.literals.specs.Literals.{set-of, listed}
 use Rattle.texts.specs.Lexemes.{Lexeme, word, line-end, end, blank, goes-on, longer, lexemes, lexemes-from}
-use Rattle.dimacs.specs.Cnf.{Cnf, read-cnf}
-use Rattle.dimacs.specs.Grammar.{Words, Lines, rule-words, cnf-lines, Spelled}
-use Rattle.dimacs_write.specs.Texts.{literal-text, rule-text, rules-text, cnf-text, set-text, set-texts}
+use Rattle.dimacs.specs.Cnf.{Cnf}
+use Rattle.texts.specs.Lines.{Words, Lines}
+use Rattle.dimacs.specs.Grammar.{rule-words, cnf-lines, Spelled}
+use Rattle.dimacs_write.specs.Texts.{literal-text, rule-text, set-text, set-texts}
 use Rattle.dimacs_write.proofs.Sets.{weight, once-lighter}
 
 -- the byte that parts a word from what follows it; none is wanted before the end

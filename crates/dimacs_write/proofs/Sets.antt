@@ -1,14 +1,13 @@
 -- The literals of a set make that set again, and take no more bytes than a list of them.
 use mathlib.Core.Path.{_≡_, refl, sym, ap, subst, _∙_}
 use mathlib.Core.Bool.{Bool, true, false, cond, _||_}
-use mathlib.Core.List.{List, [], _∷_, _++_, append-assoc}
+use mathlib.Core.List.{List, [], _∷_, _++_}
 use mathlib.Core.Logic.{⊎-elim}
 use Prim.Native.Nat.{ℕ, zero, suc, _+_, _*_, _-_, _/_, _%_, _^_, _≤_, _<_}
 use native.Mathlib.Nat.{mod-lt, mod-eq-of-lt, mod-one, one-mul, zero-mul, zero-add}
-use native.Mathlib.Numerals.{add-one}
 use native.Mathlib.Omega.{arith}
 use lib.Bits.{bitOr}
-use lib.Dec.{eqb, ltb}
+use lib.Dec.{ltb}
 use lib.IntN.{ℤ, pos, negsuc}
 use lib.ListN.{length}
 use lib.Pow.{pow-pos}
@@ -16,7 +15,7 @@ use Rattle.std.specs.Written.{signed}
 use Rattle.std.specs.shelf.Lists.{All, folded}
 use Rattle.std.proofs.shelf.Bits.{or-comm, or-lt, or-shifted, mod-pow-add, pow-below}
 use Rattle.std.proofs.shelf.Elements.{all-append}
-use Rattle.std.proofs.shelf.Tests.{eqb-true, eqb-false, ne-eqb, lt-ltb, ltb-true, cond-true, cases-eq, both-ways}
+use Rattle.std.proofs.shelf.Tests.{eqb-true, eqb-false, ne-eqb, lt-ltb, ltb-true, cond-true, cases-eq}
 use Rattle.literals.specs.declared.LiteralSet.{LiteralSet}
 use Rattle.literals.specs.Bits.{bit}
 use Rattle.literals.specs.Literals.{names, no-literals, inserted, with-literal, set-of, has, when, listed-from, listed}

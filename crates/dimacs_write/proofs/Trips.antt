@@ -1,6 +1,6 @@
 -- A text that is written spells what was written.
-use mathlib.Core.Path.{_≡_, refl, sym, ap, subst, _∙_}
-use mathlib.Core.Bool.{Bool, true, false}
+use mathlib.Core.Path.{_≡_, refl, ap, _∙_}
+use mathlib.Core.Bool.{true, false}
 use mathlib.Core.List.{List, [], _∷_, _++_, append-assoc, map}
 use Prim.Native.Nat.{ℕ, zero, suc, _+_, _^_, _≤_, _<_}
 use native.Mathlib.Omega.{arith}
@@ -15,11 +15,12 @@ use Rattle.std.specs.shelf.Text.{allDigits}
 use Rattle.std.proofs.shelf.Decimals.{digits-decimal, decimal-some}
 use Rattle.std.proofs.shelf.Tests.{and-parts, ltb-true, both-ways}
 use Rattle.std.proofs.shelf.Ways.{tells}
-use Rattle.texts.specs.Lexemes.{Lexeme, word, line-end, end, blank, lexemes, lexemes-from}
+use Rattle.texts.specs.Lexemes.{word, line-end, end, blank, lexemes, lexemes-from}
 use Rattle.texts.proofs.Cuts.{Solid, a-word}
 use Rattle.texts.proofs.Dues.{own}
 use Rattle.dimacs.specs.Cnf.{Cnf, read-cnf}
-use Rattle.dimacs.specs.Grammar.{Words, Lines, heading-words, rule-words, Well-formed}
+use Rattle.texts.specs.Lines.{Words, Lines}
+use Rattle.dimacs.specs.Grammar.{heading-words, rule-words, Well-formed}
 use Rattle.dimacs.proofs.Literals.{Named}
 use Rattle.dimacs.proofs.Grammars.{reads-just}
 use Rattle.dimacs_write.specs.Texts.{literal-text, rule-text, rules-text, cnf-text}

@@ -2,11 +2,10 @@
 use mathlib.Core.Path.{_≡_, refl, sym, ap, subst, _∙_}
 use mathlib.Core.Bool.{Bool, true, false, cond, _&&_}
 use mathlib.Core.List.{List, [], _∷_, _++_, append-assoc, map}
-use Prim.Native.Nat.{ℕ, zero, suc, _+_, _-_, _≤_, _<_}
+use Prim.Native.Nat.{ℕ, _+_, _-_, _≤_}
 use native.Mathlib.Nat.{add-zero, zero-add}
 use native.Mathlib.Omega.{arith}
 use lib.Dec.{leb}
-use lib.IntN.{ℤ}
 use lib.ListN.{length, take, drop, set, length-set, take-append-drop, length-map}
 use lib.Seq.{take-append-seam}
 use Rattle.std.specs.declared.result.Result.{Result}
@@ -20,15 +19,14 @@ use Rattle.faults.specs.declared.SheetFault.{SheetFault}
 use Rattle.faults.specs.declared.SheetFault.the-variants.{ShortBuffer}
 use Rattle.literals.specs.declared.LiteralSet.{LiteralSet}
 use Rattle.literals.specs.Literals.{set-of, listed}
-use Rattle.texts.specs.Due.{and-then}
 use Rattle.texts.proofs.Dues.{from-ok, first-then}
 use Rattle.dimacs.specs.Cnf.{Cnf, read-cnf}
-use Rattle.dimacs.specs.Grammar.{Well-formed, Spelled}
+use Rattle.dimacs.specs.Grammar.{Well-formed}
 use Rattle.dimacs.proofs.Literals.{Named}
 use Rattle.dimacs.proofs.Grammars.{reads-just}
 use Rattle.dimacs_write.specs.Laws.{as-sets, Over, Reads-back, Written-again}
 use Rattle.dimacs_write.specs.Puts.{over, written-over}
-use Rattle.dimacs_write.specs.Texts.{cnf-text, set-text, some-text, written, buffer-after}
+use Rattle.dimacs_write.specs.Texts.{set-text, some-text, written, buffer-after}
 use Rattle.dimacs_write.proofs.Trips.{reads-back}
 use Rattle.dimacs_write.proofs.Sets.{listed-named, same-set, over-set}
 use Rattle.dimacs_write.proofs.Lengths.{no-longer}

@@ -1,17 +1,16 @@
 -- Lemmas on `lexemes`.
 use mathlib.Core.Path.{_≡_, refl, sym, ap, subst, _∙_}
-use mathlib.Core.Bool.{Bool, true, false, cond, not, _||_}
+use mathlib.Core.Bool.{true, false, cond, not}
 use mathlib.Core.List.{List, [], _∷_, _++_}
 use Prim.Native.Nat.{ℕ, zero, suc, _+_, _-_, _≤_, _<_}
-use native.Mathlib.Nat.{add-zero, add-assoc}
 use native.Mathlib.Numerals.{add-one}
 use native.Mathlib.Omega.{arith}
 use lib.Dec.{eqb}
 use lib.ListN.{length, getD, take, drop, length-take, length-drop, take-append-drop, drop-of-length-le}
-use lib.Seq.{drop-cons, getD-take, getD-drop, length-take-le, drop-drop}
+use lib.Seq.{drop-cons, getD-drop, drop-drop}
 use mathlib.Core.Logic.{⊎-elim}
 use Rattle.std.proofs.shelf.Tests.{or-parts, or-from, ne-eqb, both-ways, cases-lt, cond-true, cond-false}
-use Rattle.texts.specs.Lexemes.{Lexeme, word, line-end, end, blank, goes-on, longer, lexemes, then}
+use Rattle.texts.specs.Lexemes.{word, line-end, end, blank, goes-on, longer, lexemes}
 
 -- the bytes from p on, where p is inside the text
 pub at-place : (xs : List ℕ) (p : ℕ) → p < length xs → drop p xs ≡ getD xs p 0 ∷ drop (p + 1) xs

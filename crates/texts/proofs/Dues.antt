@@ -20,7 +20,7 @@ use Rattle.faults.specs.declared.TextFault.the-variants.{Shape, Limit}
 use Rattle.texts.specs.Lexemes.{Lexeme, word, line-end, end}
 use Rattle.texts.specs.Numerals.{numeral}
 use Rattle.texts.proofs.Numerals.{numeral-word}
-use Rattle.texts.specs.Due.{leaving, and-then, one, limited, number, line-end-due, exact, exactly, end-due, ended}
+use Rattle.texts.specs.Due.{leaving, and-then, one, limited, number, line-end-due, exactly}
 
 abbrev pub from-ok : {A : Type 0} → A → Result A TextFault → A
 from-ok d (Ok x) = x

@@ -1,18 +1,18 @@
 -- Lemmas on numbers.
-use mathlib.Core.Path.{_≡_, refl, sym, ap, subst, _∙_}
-use mathlib.Core.Bool.{Bool, true, false, cond, not, _&&_, _||_}
-use mathlib.Core.List.{List, [], _∷_, _++_}
-use Prim.Native.Nat.{ℕ, zero, suc, min, _+_, _*_, _-_, _≤_, _<_}
+use mathlib.Core.Path.{_≡_, refl, ap, _∙_}
+use mathlib.Core.Bool.{true, false}
+use mathlib.Core.List.{List, [], _∷_}
+use Prim.Native.Nat.{ℕ, zero, suc, min, _+_, _*_, _-_, _<_}
 use native.Mathlib.Numerals.{add-one}
 use native.Mathlib.Omega.{arith}
-use lib.Dec.{eqb, ltb, leb}
-use lib.ListN.{length, getD, take, drop}
+use lib.Dec.{ltb}
+use lib.ListN.{length, getD, take}
 use Rattle.std.specs.Reads.{value}
 use Rattle.std.specs.Text.{asciiDigit, digitValue}
 use Rattle.std.specs.shelf.Text.{allDigits}
 use Rattle.std.proofs.shelf.Digits.{value-more}
 use mathlib.Core.Logic.{⊎-elim}
-use Rattle.std.proofs.shelf.Tests.{and-parts, and-from, and-left, and-right, leb-true, cond-true, cond-false, le-ltb, lt-ltb, ne-eqb, not-from-false, cases-lt}
+use Rattle.std.proofs.shelf.Tests.{and-parts, and-from, and-left, and-right, le-ltb, lt-ltb, ne-eqb, not-from-false, cases-lt}
 use Rattle.texts.specs.Numerals.{numeral}
 use Rattle.std.proofs.shelf.Ways.{tells}
 

@@ -1,8 +1,9 @@
 -- What is due next in a text. A reading takes lexemes and gives a value with those that are left, or the fault of the first that fails.
-use mathlib.Core.Bool.{Bool, cond, _&&_}
+use mathlib.Core.Bool.{cond, _&&_}
 use mathlib.Core.List.{List, [], _∷_}
 use Prim.Native.Nat.{ℕ, _+_}
-use lib.Dec.{eqb, leb}
+use lib.Dec.{eqb, leb, ltb}
+use lib.ListN.{length}
 use Rattle.std.specs.declared.result.Result.{Result}
 use Rattle.std.specs.declared.result.Result.the-variants.{Ok, Err}
 use Rattle.std.specs.Reads.{value}
@@ -11,6 +12,10 @@ use Rattle.faults.specs.declared.TextFault.{TextFault}
 use Rattle.faults.specs.declared.TextFault.the-variants.{Shape, Limit}
 use Rattle.texts.specs.Lexemes.{Lexeme, word, line-end, end}
 use Rattle.texts.specs.Numerals.{numeral}
+
+-- a text has at most 60,000 bytes
+abbrev pub length-due : List ℕ → Result (Unit {0}) TextFault
+length-due text = cond (ltb 60000 (length text)) (Err (Limit 60000)) (Ok tt)
 
 -- a value with the lexemes left behind it
 abbrev pub leaving : {A : Type 0} → Result A TextFault → List Lexeme → Result (A × List Lexeme) TextFault

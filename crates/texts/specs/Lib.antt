@@ -1,3 +1,4 @@
 pub mod Lexemes
 pub mod Numerals
 pub mod Due
+pub mod Lines

@@ -3,12 +3,25 @@ ghost use mathlib.Core.Path.{_≡_};
 ghost use Prim.Native.Nat.{_≤_};
 ghost use Rattle.std.specs.Vec.{made};
 ghost use Rattle.std.specs.shelf.Text.{sameBytes};
-ghost use Rattle.texts.specs.Due.{limited, number, line-end-due, exact, exactly, ended, one, leaving};
+ghost use Rattle.texts.specs.Due.{length-due, limited, number, line-end-due, exact, exactly, ended, one, leaving};
 ghost use Rattle.texts.specs.Lexemes.{ahead};
 use super::Token;
 use super::Words;
 use crate::decimal::decimal;
 use faults::TextFault;
+
+// More bytes than this make no text.
+const LONGEST: usize = 60_000;
+
+// Whether the bytes are few enough for a text.
+pub fn check_length(text: &[u8]) -> Result<(), TextFault>
+    ensures value { λ r. ⌜ r ≡ length-due (now (text .entry)) ⌝ }
+{
+    if text.len() > LONGEST {
+        return Err(TextFault::Limit(LONGEST));
+    }
+    Ok(())
+}
 
 fn same_bytes(word: &[u8], due: &[u8]) -> bool
     ensures value { λ r. ⌜ r ≡ sameBytes (now (word .entry)) (now (due .entry)) ⌝ }

@@ -3,6 +3,7 @@ mod cut;
 mod decimal;
 mod due;
 
+pub use due::check_length;
 pub use due::exact;
 pub use due::limited;
 

@@ -1,15 +1,12 @@
-use mathlib.Core.Path.{_≡_, sym, ap, subst, _∙_}
+use mathlib.Core.Path.{sym, ap, _∙_}
 use native.Mathlib.Omega.{arith}
 use lib.Dec.{ltb}
 use lib.ListN.{length}
-use Rattle.std.specs.declared.result.Result.{Result}
 use Rattle.std.specs.declared.result.Result.the-variants.{Ok, Err}
 use Rattle.std.proofs.shelf.Tests.{cond-false, le-ltb}
-use Rattle.faults.specs.declared.TextFault.{TextFault}
 use Rattle.faults.specs.declared.TextFault.the-variants.{Limit}
-use Rattle.dimacs_load.specs.declared.Size.{Size}
 use Rattle.texts.specs.Lexemes.{lexemes-from, ahead}
-use Rattle.dimacs.specs.Cnf.{heading, cnf, Cnf}
+use Rattle.dimacs.specs.Cnf.{heading, cnf}
 use Rattle.dimacs_load.specs.Loads.{sized}
 use Rattle.dimacs_load.proofs.Bodies.{size-read}
 use Rattle.dimacs_load.proofs.passes.survey.Needs as need

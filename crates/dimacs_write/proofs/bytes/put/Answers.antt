@@ -1,5 +1,4 @@
 use mathlib.Core.Path.{refl, sym, _∙_}
-use native.Mathlib.Omega.{arith}
 use Rattle.dimacs_write.proofs.Buffers.{set-past}
 use Rattle.dimacs_write.proofs.bytes.put.Needs as need
 use Rattle.dimacs_write.proofs.bytes.put.Needs.{then-at-out, else-at-out}
