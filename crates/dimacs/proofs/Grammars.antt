@@ -62,7 +62,7 @@ module _ (V : ℕ) (v : V < 2 ^ 64) where
   abbrev Body-read : ℕ → ℕ → List Lexeme → List (List ℤ) → Type 0
   Body-read n b ts rs = (length rs ≡ n) × All (All (Named V)) rs × (e : ℕ) × (rest : List Lexeme) × Lines (map rule-words rs) b ts e rest × Ends e rest
 
-  body-is : (n b : ℕ) (ts : List Lexeme) (rs : List (List ℤ)) → body V n b ts ≡ Ok rs → Body-read n b ts rs
+  pub body-is : (n b : ℕ) (ts : List Lexeme) (rs : List (List ℤ)) → body V n b ts ≡ Ok rs → Body-read n b ts rs
   body-is zero b ts rs e =
       let r = first-then (ended b ts) (λ _. Ok []) rs e in
       given (Body-read 0 b ts) [] rs (r .2) (refl, tt, b, ts, (refl, refl), ended-is b ts (r .0) (r .1))

@@ -3,7 +3,7 @@ ghost use mathlib.Core.Path.{_≡_};
 ghost use lib.ListN.{length};
 ghost use Rattle.dimacs.specs.Cnf.{read-cnf};
 ghost use Rattle.dimacs.specs.Grammar.{Reads-just};
-ghost use Rattle.dimacs_load.specs.Loads.{measured, roomy, loaded, store-after};
+ghost use Rattle.dimacs_load.specs.Loads.{measured, loaded, store-after};
 use super::Size;
 use crate::passes::fill;
 use crate::passes::survey;
@@ -12,23 +12,13 @@ use faults::SheetFaultFromStore;
 use faults::StoreFault;
 use faults::StoreFaultFromText;
 use literals::LiteralSet;
+use stores::room;
 
 // Reads the whole text.
 fn measure(text: &[u8]) -> Result<Size, StoreFault>
     ensures reads { λ r. ⌜ r ≡ measured (read-cnf (now (text .entry))) ⌝ }
 {
     Ok(survey(text)?)
-}
-
-// Whether a store of so many records has one for each rule.
-fn room(count: usize, records: usize) -> Result<(), StoreFault>
-    ensures value { λ r. ⌜ r ≡ roomy count records ⌝ }
-{
-    if count <= records {
-        Ok(())
-    } else {
-        Err(StoreFault::Short(records))
-    }
 }
 
 // Puts the questions in their order, and lays the rules into the store.

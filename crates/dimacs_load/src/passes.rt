@@ -2,8 +2,9 @@
 ghost use mathlib.Core.Path.{_≡_};
 ghost use Prim.Native.Nat.{_≤_};
 ghost use lib.ListN.{length};
-ghost use Rattle.dimacs.specs.Cnf.{body, read-cnf};
-ghost use Rattle.dimacs_load.specs.Loads.{verdict, sized, laid, laid-from, Room, Fits};
+ghost use Rattle.dimacs.specs.Cnf.{read-cnf};
+ghost use Rattle.dimacs_load.specs.Loads.{sized, sets, set-body, Fits};
+ghost use Rattle.stores.specs.Stores.{verdict, laid, Room};
 ghost use Rattle.texts.specs.Lexemes.{ahead};
 use super::Size;
 use dimacs::Opening;
@@ -15,7 +16,7 @@ use texts::check_length;
 // Reads all the rules and the end.
 fn read_through(mut rules: Rules) -> Result<(), TextFault>
     requires few { ⌜ rules .vars ≤ 64 ⌝ }
-    ensures reads { λ r. ⌜ r ≡ verdict (body (rules .entry .vars) (rules .entry .count) (rules .entry .behind) (ahead (rules .entry .words))) ⌝ }
+    ensures reads { λ r. ⌜ r ≡ verdict (set-body (rules .entry .vars) (rules .entry .count) (rules .entry .behind) (ahead (rules .entry .words))) ⌝ }
 {
     for _ in 0..rules.count() {
         let _ = rules.rule()?;
@@ -38,8 +39,8 @@ pub fn survey(text: &[u8]) -> Result<Size, TextFault>
 // Puts the rules into the front of the store.
 fn pour(mut rules: Rules, store: &mut [LiteralSet])
     requires few { ⌜ rules .vars ≤ 64 ⌝ }
-    requires room { ⌜ Room (body (rules .vars) (rules .count) (rules .behind) (ahead (rules .words))) (length (now store)) ⌝ }
-    ensures store { λ _. ⌜ now (store .exit) ≡ laid-from 0 (body (rules .entry .vars) (rules .entry .count) (rules .entry .behind) (ahead (rules .entry .words))) (now (store .entry)) ⌝ }
+    requires room { ⌜ Room (set-body (rules .vars) (rules .count) (rules .behind) (ahead (rules .words))) (length (now store)) ⌝ }
+    ensures store { λ _. ⌜ now (store .exit) ≡ laid (set-body (rules .entry .vars) (rules .entry .count) (rules .entry .behind) (ahead (rules .entry .words))) (now (store .entry)) ⌝ }
 {
     let count = rules.count() as usize;
     for i in 0..count {
@@ -53,7 +54,7 @@ fn pour(mut rules: Rules, store: &mut [LiteralSet])
 // Reads once more a text that can be read, and puts its rules into the front of the store.
 pub fn fill(text: &[u8], store: &mut [LiteralSet])
     requires fits { ⌜ Fits (read-cnf (now text)) (length (now store)) ⌝ }
-    ensures store { λ _. ⌜ now (store .exit) ≡ laid (read-cnf (now (text .entry))) (now (store .entry)) ⌝ }
+    ensures store { λ _. ⌜ now (store .exit) ≡ laid (sets (read-cnf (now (text .entry)))) (now (store .entry)) ⌝ }
 {
     let Ok(rules) = Opening::new(text).heading() else {
         unreachable()

@@ -1,11 +1,8 @@
 use mathlib.Core.Path.{sym, ap, _∙_}
 use native.Mathlib.Omega.{arith}
-use lib.Dec.{ltb}
-use lib.ListN.{length}
-use Rattle.std.specs.declared.result.Result.the-variants.{Ok, Err}
-use Rattle.std.proofs.shelf.Tests.{cond-false, le-ltb}
-use Rattle.faults.specs.declared.TextFault.the-variants.{Limit}
+use Rattle.std.specs.declared.result.Result.the-variants.{Ok}
 use Rattle.texts.specs.Lexemes.{lexemes-from, ahead}
+use Rattle.texts.specs.Due.{and-then}
 use Rattle.dimacs.specs.Cnf.{heading, cnf}
 use Rattle.dimacs_load.specs.Loads.{sized}
 use Rattle.dimacs_load.proofs.Bodies.{size-read}
@@ -15,9 +12,10 @@ pub returns : need.returns
 returns c =
     let text = c .args .text .now in
     let r = c .in-Continue-rules .rules in
+    let few = c .in-Continue-rules .ensures tt .few in
     let h = ap heading (sym (c .new .ensures .unread)) ∙ c .in-Continue-rules .ensures tt .reads in
-    let short = cond-false (ltb 60000 (length text)) (Err (Limit 60000)) (cnf (lexemes-from 0 text)) (le-ltb 60000 (length text) (omega arith)) in
-    let read = ap sized short ∙ size-read (r .vars) (r .count) (r .behind) (lexemes-from 0 text) (ahead (r .words)) h (sym (c .in-Continue-read-through .ensures tt .reads)) in
+    let read = ap (λ x. sized (and-then x (λ _. cnf (lexemes-from 0 text)))) (sym (c .in-Continue-check-length .ensures tt .value))
+    ∙ size-read (r .vars) (r .count) (r .behind) (lexemes-from 0 text) (ahead (r .words)) (omega arith) h (sym (c .in-Continue-read-through .ensures tt .reads)) in
     record {
       reads = ap (λ v. Ok (record { vars = v; count = c .count-count .result })) (c .vars-vars .ensures .value)
           ∙ ap (λ n. Ok (record { vars = r .vars; count = n })) (c .count-count .ensures .value)
