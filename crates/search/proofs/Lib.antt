@@ -1,0 +1,4 @@
+pub mod Pointwise
+pub mod Assignments
+pub mod Exists
+pub mod Machine
