@@ -18,7 +18,6 @@ use Rattle.literals.proofs.Bits.{bit-and, bit-more, bit-zero, bit-some, bit-bey
 use Rattle.search.specs.declared.Assignment.{Assignment}
 use Rattle.search.specs.Assignments.{taken, agreeing, decided, both, Clear, low-mask, clashing, put, with-value, filled, count-below, undecided}
 use Rattle.search.proofs.Pointwise.{covers-in, covers-out}
-use Rattle.search.proofs.Exists.{and-true}
 
 pub with-put : (a : Assignment) (k : ℕ) (b : Bool) → k < 64 → with-value a k b ≡ put a k b
 with-put a k b lt = cond-true (ltb k 64) (put a k b) a (lt-ltb k 64 lt)
@@ -71,13 +70,17 @@ bit-mod m n k lt =
     let e : n ≡ j + 1 + k = omega arith in
     ap (λ (x : ℕ). eqb (x % 2) 1) (ap (λ (x : ℕ). m % 2 ^ x / 2 ^ k) e ∙ field-of m (j + 1) k) ∙ ap (λ (x : ℕ). eqb x 1) (halved (m / 2 ^ k) j)
 
+always : (x : Bool) → x ≡ (x && true)
+always true = refl
+always false = refl
+
 pub bit-low : (m n k : ℕ) → n ≤ 64 → bit (bitAnd m (low-mask n)) k ≡ (bit m k && ltb k n)
 bit-low m n k few =
     let e : min n 64 ≡ n = omega arith in
     let low : bitAnd m (low-mask n) ≡ m % 2 ^ n = ap (λ (x : ℕ). bitAnd m (2 ^ x - 1)) e ∙ and-mask m n in
     ap (λ (x : ℕ). bit x k) low
     ∙ ⊎-elim
-    (λ lt. bit-mod m n k lt ∙ sym (and-true (bit m k)) ∙ ap (λ b. bit m k && b) (sym (lt-ltb k n lt)))
+    (λ lt. bit-mod m n k lt ∙ always (bit m k) ∙ ap (λ b. bit m k && b) (sym (lt-ltb k n lt)))
     (λ ge. bit-beyond (m % 2 ^ n) n k (mod-below m (2 ^ n) (pow-pos n)) ge ∙ sym (and-right (bit m k) _ (le-ltb k n ge)))
     (cases-lt k n)
 

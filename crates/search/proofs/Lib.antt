@@ -1,4 +1,3 @@
 pub mod Pointwise
 pub mod Assignments
-pub mod Exists
 pub mod Machine

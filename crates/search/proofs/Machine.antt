@@ -16,7 +16,7 @@ use Rattle.search.specs.Assignments.{agreeing, decided, both, Clear, clashing,
 use Rattle.search.specs.declared.Branches.{Branches}
 use Rattle.search.specs.Search.{Narrows, Says, Answer, branches}
 use Rattle.search.proofs.Assignments.{with-put, agreeing-put, agreeing-less, clear-put, count-le, undecided-put, length-filled, agreeing-own, clash-none, clashing-some, clashing-none}
-use Rattle.search.proofs.Exists.{some-none}
+use Rattle.laws.proofs.Least.{none-from}
 
 -- ---- the number that falls: the size of the tree that is left
 
@@ -83,7 +83,7 @@ module _ (n : ℕ) (good : List Bool → Bool) (start : Assignment) where
   pub clash-answer : n ≤ 64 → clashing n start ≡ true → Answer n good start None
   clash-answer few h =
       let s = clashing-some n start few h in
-      some-none n (λ x. good x && agreeing start x) (λ x e. refute _ _ (λ fit ok. clash-none start x (s .0) (omega (arith, s .1)) (s .2) fit))
+      none-from n (λ x. good x && agreeing start x) (λ x e. refute _ _ (λ fit ok. clash-none start x (s .0) (omega (arith, s .1)) (s .2) fit))
 
   pub starts : (pending : List Assignment) → n ≤ 64 → clashing n start ≡ false → Underway n good start start pending 0
   starts pending few h = record {
@@ -199,5 +199,5 @@ module _ (n : ℕ) (good : List Bool → Bool) (start : Assignment) where
 
   pub no-more : (current : Assignment) (pending : List Assignment) → Underway n good start current pending 0 → Says n good current Conflict → Answer n good start None
   no-more current pending h s =
-      some-none n (λ x. good x && agreeing start x)
+      none-from n (λ x. good x && agreeing start x)
       (λ x e. refute _ _ (λ fit ok. ⊎-elim (λ now. s x e ok now) (λ old. absurd (omega (arith, old .1))) (h .left x e ok fit)))

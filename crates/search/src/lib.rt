@@ -4,6 +4,7 @@ ghost use mathlib.Core.Bool.{Bool};
 ghost use mathlib.Core.List.{List};
 ghost use Prim.Native.Nat.{ℕ, _≤_, _<_};
 ghost use lib.ListN.{length};
+ghost use Rattle.literals.specs.Bits.{bit};
 ghost use Rattle.search.specs.Assignments.{decided, with-value, low-mask, clashing, from-set};
 ghost use Rattle.search.specs.Search.{depth, branches, Says, Answer};
 use literals::LiteralSet;
@@ -26,6 +27,13 @@ pub fn mask_below(variables: u8) -> u64
     }
 }
 
+// Whether a mask has a variable.
+pub fn has_bit(mask: u64, variable: u8) -> bool
+    ensures bit { λ r. ⌜ r ≡ bit mask variable ⌝ }
+{
+    variable < 64 && (mask >> variable) & 1 == 1
+}
+
 impl Assignment {
     // What a set of literals decides.
     pub fn of(literals: LiteralSet) -> Self
@@ -40,7 +48,7 @@ impl Assignment {
     pub fn has_decided(self, variable: u8) -> bool
         ensures decided { λ r. ⌜ r ≡ decided self variable ⌝ }
     {
-        variable < 64 && ((self.closed | self.opened) >> variable) & 1 == 1
+        has_bit(self.closed | self.opened, variable)
     }
 
     // One variable more decided; one that a mask does not have changes nothing.
