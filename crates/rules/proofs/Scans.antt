@@ -1,0 +1,57 @@
+-- A look over the variables of a rule, step by step.
+use mathlib.Core.Path.{_≡_, refl, sym, ap, _∙_}
+use mathlib.Core.Bool.{Bool, true, false, not, _||_}
+use mathlib.Core.List.{List}
+use Prim.Native.Nat.{ℕ, zero, suc, _+_, _-_, _<_, _≤_}
+use native.Mathlib.Omega.{arith}
+use lib.ListN.{length, getD, drop}
+use Rattle.std.specs.declared.option.Option.{Option}
+use Rattle.std.specs.declared.option.Option.the-variants.{Some, None}
+use Rattle.std.proofs.shelf.Lists.{at-drop-more}
+use Rattle.std.proofs.shelf.Tests.{cond-true, cond-false}
+use Rattle.literals.specs.Literals.{no-literals}
+use Rattle.literals.specs.declared.LiteralSet.{LiteralSet}
+use Rattle.search.specs.declared.Assignment.{Assignment}
+use Rattle.rules.specs.declared.Scan.{Scan}
+use Rattle.rules.specs.declared.Scan.the-variants.{Failed, Forced, Quiet}
+use Rattle.search.specs.Assignments.{low-mask}
+use Rattle.rules.specs.Rules.{masked, restricted, touched, passes, loose-at, first-loose, scanned, any-unmet}
+
+module _ (r : LiteralSet) (a : Assignment) (n k : ℕ) where
+  one-more : k < n → first-loose k (n - k) r a ≡ first-loose k (suc (n - (k + 1))) r a
+  one-more lt = ap (λ m. first-loose k m r a) {x = n - k} {y = suc (n - (k + 1))} (omega arith)
+
+  pub loose-next : k < n → loose-at r a k ≡ None → first-loose k (n - k) r a ≡ first-loose (k + 1) (n - (k + 1)) r a
+  loose-next lt h =
+      one-more lt ∙ ap (λ (o : Option Bool). elim o [ Some b ↦ Forced k b | None ↦ first-loose (suc k) (n - (k + 1)) r a ]) h
+      ∙ ap (λ j. first-loose j (n - (k + 1)) r a) {x = suc k} {y = k + 1} (omega arith)
+
+  pub loose-here : (b : Bool) → k < n → loose-at r a k ≡ Some b → first-loose k (n - k) r a ≡ Forced k b
+  loose-here b lt h = one-more lt ∙ ap (λ (o : Option Bool). elim o [ Some b ↦ Forced k b | None ↦ first-loose (suc k) (n - (k + 1)) r a ]) h
+
+  pub loose-none : n ≤ k → first-loose k (n - k) r a ≡ Failed
+  loose-none le = ap (λ m. first-loose k m r a) {x = n - k} {y = 0} (omega arith)
+
+or-assoc : (x y z : Bool) → ((x || y) || z) ≡ (x || (y || z))
+or-assoc true y z = refl
+or-assoc false y z = refl
+
+-- the rule at a place, as the look takes it
+module _ (n : ℕ) (a : Assignment) (rs : List LiteralSet) (i : ℕ) (lt : i < length rs) (mask : ℕ) (r : LiteralSet) (em : mask ≡ low-mask n) (er : r ≡ masked mask (getD rs i no-literals)) where
+  taken-so : r ≡ restricted n (getD rs i no-literals)
+  taken-so = er ∙ ap (λ m. masked m (getD rs i no-literals)) em
+
+  pub scan-next : passes r a ≡ true → scanned n (drop i rs) a ≡ scanned n (drop (i + 1) rs) a
+  scan-next h = at-drop-more (λ rs. scanned n rs a) rs i no-literals lt ∙ cond-true (passes (restricted n (getD rs i no-literals)) a) _ _ (ap (λ r. passes r a) (sym taken-so) ∙ h)
+
+  pub scan-here : passes r a ≡ false → scanned n (drop i rs) a ≡ first-loose 0 n r a
+  scan-here h =
+      at-drop-more (λ rs. scanned n rs a) rs i no-literals lt ∙ cond-false (passes (restricted n (getD rs i no-literals)) a) _ _ (ap (λ r. passes r a) (sym taken-so) ∙ h)
+      ∙ ap (λ r. first-loose 0 n r a) (sym taken-so)
+
+  pub unmet-next : (t t′ : Bool) → t′ ≡ (t || not (touched r a)) → (t || any-unmet n (drop i rs) a) ≡ (t′ || any-unmet n (drop (i + 1) rs) a)
+  unmet-next t t′ e =
+      ap (λ b. t || b) (at-drop-more (λ rs. any-unmet n rs a) rs i no-literals lt)
+      ∙ ap (λ r. t || (not (touched r a) || any-unmet n (drop (i + 1) rs) a)) (sym taken-so)
+      ∙ sym (or-assoc t (not (touched r a)) (any-unmet n (drop (i + 1) rs) a))
+      ∙ ap (λ b. b || any-unmet n (drop (i + 1) rs) a) (sym e)

@@ -1,0 +1,65 @@
+-- What rules say of an assignment. A rule has failed where none of its literals is met or undecided,
+-- and forces its literal where that is the single undecided one and none is met.
+use mathlib.Core.Path.{_≡_}
+use mathlib.Core.Bool.{Bool, true, false, not, cond, _||_}
+use mathlib.Core.List.{List, [], _∷_}
+use Prim.Native.Nat.{ℕ, zero, suc, _-_, _<_}
+use lib.Bits.{bitAnd, bitOr, bitXor}
+use lib.Dec.{eqb}
+use Rattle.std.specs.declared.option.Option.{Option}
+use Rattle.std.specs.declared.option.Option.the-variants.{Some, None}
+use Rattle.literals.specs.Bits.{bit}
+use Rattle.literals.specs.declared.LiteralSet.{LiteralSet}
+use Rattle.search.specs.declared.Assignment.{Assignment}
+use Rattle.search.specs.Assignments.{decided, low-mask}
+use Rattle.rules.specs.declared.Scan.{Scan}
+use Rattle.rules.specs.declared.Scan.the-variants.{Failed, Forced, Quiet}
+
+-- a rule's literals on the variables of a mask, and on the first n
+abbrev pub masked : ℕ → LiteralSet → LiteralSet
+masked m r = record { closed = bitAnd (r .closed) m; opened = bitAnd (r .opened) m }
+
+abbrev pub restricted : ℕ → LiteralSet → LiteralSet
+restricted n r = masked (low-mask n) r
+
+-- a literal of the rule is met, or two of its literals are opposite, so that every setting meets it
+abbrev pub met-mask : LiteralSet → Assignment → ℕ
+met-mask r a = bitOr (bitOr (bitAnd (r .closed) (a .closed)) (bitAnd (r .opened) (a .opened))) (bitAnd (r .closed) (r .opened))
+
+abbrev pub touched : LiteralSet → Assignment → Bool
+touched r a = not (eqb (met-mask r a) 0)
+
+-- the undecided variables of a rule
+abbrev pub left-mask : LiteralSet → Assignment → ℕ
+left-mask r a = let variables = bitOr (r .closed) (r .opened) in bitXor variables (bitAnd variables (bitOr (a .closed) (a .opened)))
+
+-- a mask has two variables or more: one is left without the lowest
+abbrev pub several : ℕ → Bool
+several m = not (eqb (bitAnd m (m - 1)) 0)
+
+abbrev pub passes : LiteralSet → Assignment → Bool
+passes r a = touched r a || several (left-mask r a)
+
+-- the value that a rule wants of a variable, if that is undecided
+abbrev pub loose-at : LiteralSet → Assignment → ℕ → Option Bool
+loose-at r a k = cond (decided a k) None (cond (bit (r .closed) k) (Some true) (cond (bit (r .opened) k) (Some false) None))
+
+-- the first such value among n variables from variable k on
+abbrev pub first-loose : ℕ → ℕ → LiteralSet → Assignment → Scan
+first-loose k zero r a = Failed
+first-loose k (suc n) r a = elim (loose-at r a k) [ Some b ↦ Forced k b | None ↦ first-loose (suc k) n r a ]
+
+-- the first rule that forces a literal or has failed, on n variables
+abbrev pub scanned : ℕ → List LiteralSet → Assignment → Scan
+scanned n [] a = Quiet
+scanned n (r ∷ rs) a = cond (passes (restricted n r) a) (scanned n rs a) (first-loose 0 n (restricted n r) a)
+
+-- some rule is not met yet
+abbrev pub any-unmet : ℕ → List LiteralSet → Assignment → Bool
+any-unmet n [] a = false
+any-unmet n (r ∷ rs) a = not (touched (restricted n r) a) || any-unmet n rs a
+
+-- a choice names an undecided variable; there is none only where every rule is met, or all n variables are decided
+abbrev pub Choice : ℕ → Assignment → Bool → Option ℕ → Type 0
+Choice n a unmet (Some k) = (k < n) × (decided a k ≡ false)
+Choice n a unmet None = unmet ≡ true → (k : ℕ) → k < n → decided a k ≡ true
