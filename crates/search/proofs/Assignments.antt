@@ -63,7 +63,7 @@ clear-put n a w false h g k lt =
 halved : (m j : ℕ) → m % 2 ^ (j + 1) % 2 ≡ m % 2
 halved m j = omega (arith, mod-pow-add m j 1)
 
-bit-mod : (m n k : ℕ) → k < n → bit (m % 2 ^ n) k ≡ bit m k
+pub bit-mod : (m n k : ℕ) → k < n → bit (m % 2 ^ n) k ≡ bit m k
 unfolding bit
 bit-mod m n k lt =
     let j : ℕ = n - k - 1 in
