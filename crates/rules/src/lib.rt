@@ -6,7 +6,6 @@ ghost use Rattle.search.specs.Assignments.{decided};
 ghost use Rattle.rules.specs.Rules.{masked, touched, left-mask, several, passes, loose-at, scanned, any-unmet, Choice};
 use literals::LiteralSet;
 use search::Assignment;
-use search::has_bit;
 use search::mask_below;
 
 // What a look at rules for a forced literal found. A variable goes by its index, from 0.
@@ -67,9 +66,9 @@ fn wanted(rule: LiteralSet, assignment: Assignment, variable: u8) -> Option<bool
 {
     if assignment.has_decided(variable) {
         None
-    } else if has_bit(rule.closed, variable) {
+    } else if rule.has(variable as usize, true) {
         Some(true)
-    } else if has_bit(rule.opened, variable) {
+    } else if rule.has(variable as usize, false) {
         Some(false)
     } else {
         None

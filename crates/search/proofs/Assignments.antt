@@ -8,13 +8,13 @@ use native.Mathlib.Omega.{arith}
 use lib.Bits.{bitAnd, bitOr}
 use lib.Dec.{eqb, ltb}
 use lib.ListN.{length, getD}
-use Rattle.std.proofs.shelf.Bits.{and-mask, and-le-r, pow-pos, field-of, mod-pow-add, mod-below}
+use Rattle.std.proofs.shelf.Bits.{and-mask, and-le-r, pow-pos}
 use Rattle.std.proofs.shelf.Counted.{getD-map-counting, length-map-counting}
 use Rattle.std.proofs.shelf.Tests.{eqb-true, eqb-false, eq-eqb, ne-eqb, lt-ltb, le-ltb, and-from, and-right, and-parts, or-from, or-parts, both-ways, cases-eq, cases-lt, cond-true, not-true, not-false, not-from-false, not-from-true}
 use Rattle.std.proofs.shelf.Ways.{tells}
 use Rattle.literals.specs.Bits.{bit}
 use Rattle.literals.specs.Literals.{has}
-use Rattle.literals.proofs.Bits.{bit-and, bit-more, bit-zero, bit-some, bit-beyond}
+use Rattle.literals.proofs.Bits.{bit-and, bit-more, bit-zero, bit-some, bit-beyond, bit-ones}
 use Rattle.search.specs.declared.Assignment.{Assignment}
 use Rattle.search.specs.Assignments.{taken, agreeing, decided, both, Clear, low-mask, clashing, put, with-value, filled, count-below, undecided}
 use Rattle.search.proofs.Pointwise.{covers-in, covers-out}
@@ -60,29 +60,20 @@ clear-put n a w false h g k lt =
     new x y false h g = grind (arith, tells)
 
 -- the bits of a mask at the first n variables
-halved : (m j : ℕ) → m % 2 ^ (j + 1) % 2 ≡ m % 2
-halved m j = omega (arith, mod-pow-add m j 1)
-
 pub bit-mod : (m n k : ℕ) → k < n → bit (m % 2 ^ n) k ≡ bit m k
-unfolding bit
-bit-mod m n k lt =
-    let j : ℕ = n - k - 1 in
-    let e : n ≡ j + 1 + k = omega arith in
-    ap (λ (x : ℕ). eqb (x % 2) 1) (ap (λ (x : ℕ). m % 2 ^ x / 2 ^ k) e ∙ field-of m (j + 1) k) ∙ ap (λ (x : ℕ). eqb x 1) (halved (m / 2 ^ k) j)
+bit-mod m n k lt = ap (λ (x : ℕ). bit x k) (sym (and-mask m n)) ∙ bit-and m (2 ^ n - 1) k ∙ ap (λ b. bit m k && b) (bit-ones n k lt) ∙ grind (arith, tells)
 
-always : (x : Bool) → x ≡ (x && true)
-always true = refl
-always false = refl
+ones-low : (n k : ℕ) → bit (2 ^ n - 1) k ≡ ltb k n
+ones-low n k =
+    ⊎-elim
+    (λ lt. bit-ones n k lt ∙ sym (lt-ltb k n lt))
+    (λ ge. bit-beyond (2 ^ n - 1) n k (omega (arith, pow-pos n)) ge ∙ sym (le-ltb k n ge))
+    (cases-lt k n)
 
 pub bit-low : (m n k : ℕ) → n ≤ 64 → bit (bitAnd m (low-mask n)) k ≡ (bit m k && ltb k n)
 bit-low m n k few =
     let e : min n 64 ≡ n = omega arith in
-    let low : bitAnd m (low-mask n) ≡ m % 2 ^ n = ap (λ (x : ℕ). bitAnd m (2 ^ x - 1)) e ∙ and-mask m n in
-    ap (λ (x : ℕ). bit x k) low
-    ∙ ⊎-elim
-    (λ lt. bit-mod m n k lt ∙ always (bit m k) ∙ ap (λ b. bit m k && b) (sym (lt-ltb k n lt)))
-    (λ ge. bit-beyond (m % 2 ^ n) n k (mod-below m (2 ^ n) (pow-pos n)) ge ∙ sym (and-right (bit m k) _ (le-ltb k n ge)))
-    (cases-lt k n)
+    bit-and m (low-mask n) k ∙ ap (λ b. bit m k && b) (ap (λ (x : ℕ). bit (2 ^ x - 1) k) e ∙ ones-low n k)
 
 -- ---- how many variables are undecided
 

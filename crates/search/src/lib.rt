@@ -4,10 +4,10 @@ ghost use mathlib.Core.Bool.{Bool};
 ghost use mathlib.Core.List.{List};
 ghost use Prim.Native.Nat.{ℕ, _≤_, _<_};
 ghost use lib.ListN.{length};
-ghost use Rattle.literals.specs.Bits.{bit};
 ghost use Rattle.search.specs.Assignments.{decided, with-value, low-mask, clashing, from-set};
 ghost use Rattle.search.specs.Search.{depth, branches, Says, Answer};
 use literals::LiteralSet;
+use literals::has_bit;
 
 // What is decided so far: variable k + 1 closed where bit k of `closed` is set, and open where bit k of `opened` is.
 #[derive(Clone, Copy)]
@@ -27,13 +27,6 @@ pub fn mask_below(variables: u8) -> u64
     }
 }
 
-// Whether a mask has a variable.
-pub fn has_bit(mask: u64, variable: u8) -> bool
-    ensures bit { λ r. ⌜ r ≡ bit mask variable ⌝ }
-{
-    variable < 64 && (mask >> variable) & 1 == 1
-}
-
 impl Assignment {
     // What a set of literals decides.
     pub fn of(literals: LiteralSet) -> Self
@@ -48,7 +41,7 @@ impl Assignment {
     pub fn has_decided(self, variable: u8) -> bool
         ensures decided { λ r. ⌜ r ≡ decided self variable ⌝ }
     {
-        has_bit(self.closed | self.opened, variable)
+        has_bit(self.closed | self.opened, variable as usize)
     }
 
     // One variable more decided; one that a mask does not have changes nothing.

@@ -100,7 +100,7 @@ meets-more s (negsuc k) x h = meets-one s k false x (ltb-true k (length x) h)
 
 -- ---- a bar as the rule of the opposite literals
 
-pub opposite : LiteralSet → LiteralSet
+unfoldable pub opposite : LiteralSet → LiteralSet
 opposite s = record { closed = s .opened; opened = s .closed }
 
 has-opposite : (s : LiteralSet) (k : ℕ) (b : Bool) → has (opposite s) k b ≡ has s k (not b)
