@@ -1,0 +1,156 @@
+-- From the settings of all variables to those of the contacts.
+use mathlib.Core.Path.{_≡_, refl, sym, ap, ap₂, subst, _∙_}
+use mathlib.Core.Bool.{Bool, true, false, not, cond, _&&_, _||_}
+use mathlib.Core.List.{List, [], _∷_, _++_, map}
+use Prim.Native.Nat.{ℕ, zero, suc, _+_, _-_, _^_, _<_, _≤_}
+use native.Mathlib.Omega.{arith}
+use lib.Bits.{bitAnd}
+use lib.Dec.{ltb}
+use lib.IntN.{ℤ, pos, negsuc}
+use lib.ListN.{length, getD, take, drop, take-append-drop, length-append, length-drop}
+use Rattle.std.specs.Iters.{counting}
+use Rattle.std.specs.Options.{mapped}
+use Rattle.std.specs.declared.option.Option.{Option}
+use Rattle.std.specs.declared.option.Option.the-variants.{Some, None}
+use Rattle.std.proofs.shelf.Counted.{take-map-counting, length-map-counting, fill-by-all}
+use Rattle.std.proofs.shelf.Lists.{getD-append-left}
+use Rattle.std.proofs.shelf.Tests.{and-from, and-parts, ltb-true}
+use Rattle.literals.specs.Bits.{bit}
+use Rattle.literals.specs.declared.LiteralSet.{LiteralSet}
+use Rattle.literals.specs.Literals.{names, first-unnamed, set-of}
+use Rattle.literals.proofs.Bits.{bit-and, bit-ones}
+use Rattle.tables.specs.Tables.{items}
+use Rattle.settings.specs.Settings.{agrees, fits, meets, covers, all-met, any-covers}
+use Rattle.settings.specs.Least.{some}
+use Rattle.settings.specs.Readings.{reading}
+use Rattle.settings.proofs.Sets.{opposite as opposed, bar-is-rule, named-parts, names-more, sets-law}
+use Rattle.laws.proofs.Least.{some-from, some-alike, none-from}
+use Rattle.laws.proofs.Prefix.{some-append}
+use Rattle.faults.specs.declared.SolverFault.{SolverFault}
+use Rattle.faults.specs.declared.SolverFault.the-variants.{BadLiteral}
+use Rattle.solver.specs.Meaning.{literal-fault, Answers, stands-with}
+use Rattle.search.specs.declared.Assignment.{Assignment}
+use Rattle.search.specs.Assignments.{from-set, agreeing, filled}
+use Rattle.search.specs.Search.{Answer}
+use Rattle.search.proofs.Assignments.{length-filled, getD-filled}
+use Rattle.clauses.specs.declared.ClauseSolver.{ClauseSolver}
+use Rattle.clauses.specs.Clauses.{opposite, InOrder, clause-base, clause-good, clause-meaning, low-half}
+
+-- ---- bars as rules
+
+bar-rule : (r : LiteralSet) (x : List Bool) → covers (opposite r) x ≡ not (meets r x)
+unfolding opposed
+bar-rule r x = bar-is-rule (opposite r) x
+
+not-or : (a b : Bool) → not (a || b) ≡ (not a && not b)
+not-or true b = refl
+not-or false b = refl
+
+not-not : (a : Bool) → a ≡ not (not a)
+not-not true = refl
+not-not false = refl
+
+all-met-bars : (rs : List LiteralSet) (x : List Bool) → all-met rs x ≡ not (any-covers (map opposite rs) x)
+all-met-bars [] x = refl
+all-met-bars (r ∷ rs) x =
+    ap₂ (λ p q. p && q) (not-not (meets r x) ∙ ap not (sym (bar-rule r x))) (all-met-bars rs x) ∙ sym (not-or (covers (opposite r) x) (any-covers (map opposite rs) x))
+
+-- ---- literals that name contacts, in a setting of more variables
+
+agrees-front : (l : ℤ) (x y : List Bool) → names (length x) l ≡ true → agrees (x ++ y) l ≡ agrees x l
+agrees-front (pos zero) x y h = refl
+agrees-front (pos (suc k)) x y h = getD-append-left x y false k (ltb-true k (length x) h)
+agrees-front (negsuc k) x y h = ap not (getD-append-left x y false k (ltb-true k (length x) h))
+
+fits-front : (ls : List ℤ) (x y : List Bool) → first-unnamed (length x) ls ≡ None → fits ls (x ++ y) ≡ fits ls x
+fits-front [] x y h = refl
+fits-front (l ∷ ls) x y h = let p = named-parts (length x) l ls h in ap₂ (λ a b. a && b) (agrees-front l x y (p .0)) (fits-front ls x y (p .1))
+
+named-more : (n m : ℕ) (ls : List ℤ) → n ≤ m → first-unnamed n ls ≡ None → first-unnamed m ls ≡ None
+named-more n m [] le h = refl
+named-more n m (l ∷ ls) le h =
+    let p = named-parts n l ls h in
+    ap₂ (λ (b : Bool) (o : Option ℕ). cond b (mapped suc o) (Some 0)) (names-more n m l le (p .0)) (named-more n m ls le (p .1))
+
+asked-front : (ls : List ℤ) (x y : List Bool) → length (x ++ y) ≤ 64 → first-unnamed (length x) ls ≡ None → covers (set-of ls) (x ++ y) ≡ fits ls x
+asked-front ls x y few h =
+    sets-law ls (x ++ y) few (named-more (length x) (length (x ++ y)) ls (omega (arith, length-append x y)) h) .bar ∙ fits-front ls x y h
+
+take-front : (x y : List Bool) (n : ℕ) → length x ≡ n → take n (x ++ y) ≡ x
+take-front [] y n e = ap (λ k. take k y) {x = n} {y = 0} (omega arith)
+take-front (b ∷ x) y n e = ap (λ k. take k (b ∷ (x ++ y))) {x = n} {y = suc (length x)} (omega arith) ∙ ap (λ z. b ∷ z) (take-front x y (length x) refl)
+
+-- ---- some values of the inner variables
+
+and-true : (x : Bool) → (x && true) ≡ x
+and-true true = refl
+and-true false = refl
+
+and-false : (x : Bool) → (x && false) ≡ false
+and-false true = refl
+and-false false = refl
+
+some-and : (n : ℕ) (p : List Bool → Bool) (b : Bool) → some n (λ x. p x && b) ≡ (some n p && b)
+some-and n p true = some-alike n (λ x. p x && true) p (λ x e. and-true (p x)) ∙ sym (and-true (some n p))
+some-and n p false = none-from n (λ x. p x && false) (λ x e. and-false (p x)) ∙ sym (and-false (some n p))
+
+and-assoc : (x y z : Bool) → ((x && y) && z) ≡ (x && (y && z))
+and-assoc true y z = refl
+and-assoc false y z = refl
+
+-- no fault of the literals: each names a contact
+no-fault : (place : Option ℕ) → elim place as (λ _. Option SolverFault) [ None ↦ None | Some k ↦ Some (BadLiteral k) ] ≡ None → place ≡ None
+no-fault None h = refl
+no-fault (Some k) h = absurd (let z : _≡_ {A = ℕ} 0 1 = cc in omega arith)
+
+module _ (s : ClauseSolver) (o : InOrder s) (ls : List ℤ) (faultless : literal-fault (clause-meaning s) ls ≡ None) where
+  named : first-unnamed (s .contacts) ls ≡ None
+  named = no-fault (first-unnamed (s .contacts) ls) faultless
+
+  -- what is searched for, at the contacts x and the inner variables y
+  whole : List Bool → Bool
+  whole z = clause-good s z && agreeing (from-set (set-of ls)) z
+
+  -- what the contacts alone decide
+  rest : List Bool → Bool
+  rest x = all-met (items (s .added)) x && not (any-covers (map opposite (items (s .bars))) x)
+
+  whole-split : (x y : List Bool) → length x ≡ s .contacts → length y ≡ s .inner → whole (x ++ y) ≡ ((all-met (s .rules .now) (x ++ y) && rest x) && fits ls x)
+  unfolding whole rest
+  whole-split x y ex ey =
+      let front = take-front x y (s .contacts) ex in
+      ap₂ (λ p q. (all-met (s .rules .now) (x ++ y) && p) && q)
+      (ap (λ z. all-met (items (s .added)) z && all-met (items (s .bars)) z) front ∙ ap (λ b. all-met (items (s .added)) x && b) (all-met-bars (items (s .bars)) x))
+      (asked-front ls x y (omega (arith, length-append x y, o .few-variables)) (ap (λ n. first-unnamed n ls) ex ∙ named))
+
+  stands-split : (x : List Bool) → length x ≡ s .contacts → some (s .inner) (λ y. whole (x ++ y)) ≡ stands-with (clause-meaning s) ls x
+  unfolding rest
+  stands-split x ex =
+      some-alike (s .inner) (λ y. whole (x ++ y)) (λ y. (all-met (s .rules .now) (x ++ y) && rest x) && fits ls x) (λ y ey. whole-split x y ex ey)
+      ∙ some-and (s .inner) (λ y. all-met (s .rules .now) (x ++ y) && rest x) (fits ls x)
+      ∙ ap (λ b. b && fits ls x) (some-and (s .inner) (λ y. all-met (s .rules .now) (x ++ y)) (rest x))
+
+  pub answered-none : Answer (s .contacts + s .inner) (clause-good s) (from-set (set-of ls)) None → Answers (clause-meaning s) ls None
+  unfolding whole
+  answered-none h =
+      sym (some-alike (s .contacts) (λ x. some (s .inner) (λ y. whole (x ++ y))) (stands-with (clause-meaning s) ls) stands-split)
+      ∙ sym (some-append (s .contacts) (s .inner) whole) ∙ h
+
+  -- the setting in the answer is the contacts' part of the assignment found
+  low-bit : (a : Assignment) (k : ℕ) → k < 32 → bit (low-half a .closed) k ≡ bit (a .closed) k
+  low-bit a k lt = bit-and (a .closed) 0xffff_ffff k ∙ ap (λ b. bit (a .closed) k && b) (bit-ones 32 k lt) ∙ and-true (bit (a .closed) k)
+
+  pub answered-some : (a : Assignment) → Answer (s .contacts + s .inner) (clause-good s) (from-set (set-of ls)) (Some a) → Answers (clause-meaning s) ls (Some (low-half a))
+  unfolding whole
+  answered-some a h =
+      let n = s .contacts in
+      let m = s .inner in
+      let x = reading n (low-half a) in
+      let y = drop n (filled (n + m) a) in
+      let front : take n (filled (n + m) a) ≡ x =
+      take-map-counting (λ k. bit (a .closed) k) 0 (n + m) n (omega arith)
+      ∙ fill-by-all (λ k. bit (low-half a .closed) k) (filled n a) n false (length-filled n a) (λ k lt. getD-filled n a k lt ∙ sym (low-bit a k (omega (arith, o .few-contacts)))) in
+      let join : x ++ y ≡ filled (n + m) a = ap (λ z. z ++ y) (sym front) ∙ take-append-drop n (filled (n + m) a) in
+      let ex : length x ≡ n = length-map-counting (λ k. bit (low-half a .closed) k) 0 n in
+      let ey : length y ≡ m = length-drop n (filled (n + m) a) ∙ ap (λ k. k - n) (length-filled (n + m) a) ∙ omega arith in
+      sym (stands-split x ex) ∙ some-from m (λ y. whole (x ++ y)) y ey (ap whole join ∙ h)

@@ -1,0 +1,80 @@
+-- What looks over several lists of rules tell together.
+use mathlib.Core.Path.{_≡_, refl, sym, ap, ap₂, subst, _∙_}
+use mathlib.Core.Bool.{Bool, true, false, not, _&&_, _||_}
+use mathlib.Core.List.{List}
+use mathlib.Core.Logic.{⊎-elim}
+use Prim.Native.Nat.{ℕ, _+_, _<_, _≤_}
+use native.Mathlib.Omega.{arith}
+use lib.ListN.{length, getD, take}
+use lib.Seq.{take-all}
+use Rattle.std.specs.declared.option.Option.the-variants.{None}
+use Rattle.std.proofs.shelf.Tests.{and-from, and-parts, or-parts, cases-bool}
+use Rattle.literals.specs.declared.LiteralSet.{LiteralSet}
+use Rattle.tables.specs.Tables.{items}
+use Rattle.settings.specs.Settings.{all-met}
+use Rattle.search.specs.declared.Assignment.{Assignment}
+use Rattle.search.specs.declared.Found.the-variants.{Conflict, Forced as Forces, Met}
+use Rattle.search.specs.Assignments.{agreeing, decided, Clear, filled}
+use Rattle.search.specs.Search.{Says}
+use Rattle.search.proofs.Assignments.{length-filled, agreeing-own}
+use Rattle.rules.specs.declared.Scan.{Scan}
+use Rattle.rules.specs.declared.Scan.the-variants.{Failed, Forced, Quiet}
+use Rattle.rules.specs.Rules.{scanned, any-unmet, Choice}
+use Rattle.rules.proofs.Forces.{Tells, tells-all, all-touched}
+use Rattle.clauses.specs.declared.ClauseSolver.{ClauseSolver}
+use Rattle.clauses.specs.Clauses.{InOrder, clause-good, clause-scan, clause-unmet, else-scan}
+
+-- what a look tells of the good settings of n variables
+abbrev pub Sums : ℕ → (List Bool → Bool) → Assignment → Scan → Type 0
+Sums n good a Failed = Says n good a Conflict
+Sums n good a (Forced k b) = Says n good a (Forces k b)
+Sums n good a Quiet = ((k : ℕ) → k < n → decided a k ≡ true) → (x : List Bool) → length x ≡ n → agreeing a x ≡ true → good x ≡ true
+
+module _ (n : ℕ) (a : Assignment) where
+  sums-list : (m : ℕ) (rs : List LiteralSet) (s : Scan) → m ≤ n → Tells m rs a s → Sums n (λ x. all-met rs (take m x)) a s
+  sums-list m rs Failed le t = λ x e g fit. t x (omega arith) fit g
+  sums-list m rs (Forced k b) le t = (omega (arith, t .0), t .1, λ x e g fit. t .2 x (omega arith) fit g)
+  sums-list m rs Quiet le t = λ all x e fit. t (λ k lt. all k (omega arith)) x (omega arith) fit
+
+  sums-and : (p q : List Bool → Bool) (s t : Scan) → Sums n p a s → Sums n q a t → Sums n (λ x. p x && q x) a (else-scan s t)
+  sums-and p q Failed t h g = λ x e ok fit. h x e (and-parts _ _ ok .0) fit
+  sums-and p q (Forced k b) t h g = (h .0, h .1, λ x e ok fit. h .2 x e (and-parts _ _ ok .0) fit)
+  sums-and p q Quiet Failed h g = λ x e ok fit. g x e (and-parts (p x) _ ok .1) fit
+  sums-and p q Quiet (Forced k b) h g = (g .0, g .1, λ x e ok fit. g .2 x e (and-parts (p x) _ ok .1) fit)
+  sums-and p q Quiet Quiet h g = λ all x e fit. and-from _ _ (h all x e fit) (g all x e fit)
+
+  sums-whole : (rs : List LiteralSet) (s : Scan) → Tells n rs a s → Sums n (all-met rs) a s
+  sums-whole rs Failed t = λ x e g fit. t x (omega arith) fit (ap (all-met rs) (take-all n x (omega arith)) ∙ g)
+  sums-whole rs (Forced k b) t = (t .0, t .1, λ x e g fit. t .2 x (omega arith) fit (ap (all-met rs) (take-all n x (omega arith)) ∙ g))
+  sums-whole rs Quiet t = λ all x e fit. ap (all-met rs) (sym (take-all n x (omega arith))) ∙ t all x (omega arith) fit
+
+module _ (s : ClauseSolver) (o : InOrder s) (a : Assignment) where
+  pub scan-sums : Sums (s .contacts + s .inner) (clause-good s) a (clause-scan s a)
+  scan-sums =
+      let n = s .contacts + s .inner in
+      let m = s .contacts in
+      let added = items (s .added) in
+      let bars = items (s .bars) in
+      sums-and n a (all-met (s .rules .now)) (λ x. all-met added (take m x) && all-met bars (take m x)) (scanned n (s .rules .now) a) (else-scan (scanned m added a) (scanned m bars a))
+      (sums-whole n a (s .rules .now) (scanned n (s .rules .now) a) (tells-all n (o .few-variables) a (s .rules .now)))
+      (sums-and n a (λ x. all-met added (take m x)) (λ x. all-met bars (take m x)) (scanned m added a) (scanned m bars a)
+      (sums-list n a m added (scanned m added a) (omega arith) (tells-all m (omega (arith, o .few-variables)) a added))
+      (sums-list n a m bars (scanned m bars a) (omega arith) (tells-all m (omega (arith, o .few-variables)) a bars)))
+
+  none-unmet : clause-unmet s a ≡ false → (x : List Bool) → length x ≡ s .contacts + s .inner → agreeing a x ≡ true → clause-good s x ≡ true
+  none-unmet h x e fit =
+      let n = s .contacts + s .inner in
+      let m = s .contacts in
+      let p = or-parts _ _ h in
+      let q = or-parts _ _ (p .0) in
+      and-from _ _ (ap (all-met (s .rules .now)) (sym (take-all n x (omega arith))) ∙ all-touched n (o .few-variables) a (s .rules .now) (q .0) x (omega arith) fit)
+      (and-from _ _ (all-touched m (omega (arith, o .few-variables)) a (items (s .added)) (q .1) x (omega arith) fit) (all-touched m (omega (arith, o .few-variables)) a (items (s .bars)) (p .1) x (omega arith) fit))
+
+  -- a quiet look and no variable to try: the assignment meets all, with the rest open
+  pub quiet-met : Quiet ≡ clause-scan s a → Choice (s .contacts + s .inner) a (clause-unmet s a) None → Says (s .contacts + s .inner) (clause-good s) a Met
+  quiet-met q none clear =
+      let n = s .contacts + s .inner in
+      ⊎-elim
+      (λ unmet. subst (Sums n (clause-good s) a) (sym q) scan-sums (none unmet) (filled n a) (length-filled n a) (agreeing-own n a clear))
+      (λ met. none-unmet met (filled n a) (length-filled n a) (agreeing-own n a clear))
+      (cases-bool (clause-unmet s a))
