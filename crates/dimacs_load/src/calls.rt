@@ -15,7 +15,7 @@ use literals::LiteralSet;
 use stores::room;
 
 // Reads the whole text.
-fn measure(text: &[u8]) -> Result<Size, StoreFault>
+pub fn measure(text: &[u8]) -> Result<Size, StoreFault>
     ensures reads { λ r. ⌜ r ≡ measured (read-cnf (now (text .entry))) ⌝ }
 {
     Ok(survey(text)?)

@@ -1,0 +1,2 @@
+mod Rules
+mod Loaded
