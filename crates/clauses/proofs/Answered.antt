@@ -16,44 +16,22 @@ use Rattle.std.proofs.shelf.Counted.{take-map-counting, length-map-counting, fi
 use Rattle.std.proofs.shelf.Lists.{getD-append-left}
 use Rattle.std.proofs.shelf.Tests.{and-from, and-parts, ltb-true}
 use Rattle.literals.specs.Bits.{bit}
-use Rattle.literals.specs.declared.LiteralSet.{LiteralSet}
 use Rattle.literals.specs.Literals.{names, first-unnamed, set-of}
 use Rattle.literals.proofs.Bits.{bit-and, bit-ones}
-use Rattle.tables.specs.Tables.{items}
-use Rattle.settings.specs.Settings.{agrees, fits, meets, covers, all-met, any-covers}
+use Rattle.additions.specs.Additions.{passes}
+use Rattle.settings.specs.Settings.{agrees, fits, covers, all-met}
 use Rattle.settings.specs.Least.{some}
 use Rattle.settings.specs.Readings.{reading}
-use Rattle.settings.proofs.Sets.{opposite as opposed, bar-is-rule, named-parts, names-more, sets-law}
+use Rattle.settings.proofs.Sets.{named-parts, names-more, sets-law}
 use Rattle.laws.proofs.Least.{some-from, some-alike, none-from}
 use Rattle.laws.proofs.Prefix.{some-append}
-use Rattle.faults.specs.declared.SolverFault.{SolverFault}
-use Rattle.faults.specs.declared.SolverFault.the-variants.{BadLiteral}
-use Rattle.solver.specs.Meaning.{literal-fault, Answers, stands-with}
+use Rattle.solver.specs.Meaning.{Answers, stands-with}
 use Rattle.search.specs.declared.Assignment.{Assignment}
 use Rattle.search.specs.Assignments.{from-set, agreeing, filled}
 use Rattle.search.specs.Search.{Answer}
 use Rattle.search.proofs.Assignments.{length-filled, getD-filled}
 use Rattle.clauses.specs.declared.ClauseSolver.{ClauseSolver}
-use Rattle.clauses.specs.Clauses.{opposite, InOrder, clause-base, clause-good, clause-meaning, low-half}
-
--- ---- bars as rules
-
-bar-rule : (r : LiteralSet) (x : List Bool) → covers (opposite r) x ≡ not (meets r x)
-unfolding opposed
-bar-rule r x = bar-is-rule (opposite r) x
-
-not-or : (a b : Bool) → not (a || b) ≡ (not a && not b)
-not-or true b = refl
-not-or false b = refl
-
-not-not : (a : Bool) → a ≡ not (not a)
-not-not true = refl
-not-not false = refl
-
-all-met-bars : (rs : List LiteralSet) (x : List Bool) → all-met rs x ≡ not (any-covers (map opposite rs) x)
-all-met-bars [] x = refl
-all-met-bars (r ∷ rs) x =
-    ap₂ (λ p q. p && q) (not-not (meets r x) ∙ ap not (sym (bar-rule r x))) (all-met-bars rs x) ∙ sym (not-or (covers (opposite r) x) (any-covers (map opposite rs) x))
+use Rattle.clauses.specs.Clauses.{InOrder, clause-variables, clause-good, clause-meaning, low-half}
 
 -- ---- literals that name contacts, in a setting of more variables
 
@@ -94,43 +72,24 @@ some-and : (n : ℕ) (p : List Bool → Bool) (b : Bool) → some n (λ x. p x &
 some-and n p true = some-alike n (λ x. p x && true) p (λ x e. and-true (p x)) ∙ sym (and-true (some n p))
 some-and n p false = none-from n (λ x. p x && false) (λ x e. and-false (p x)) ∙ sym (and-false (some n p))
 
-and-assoc : (x y z : Bool) → ((x && y) && z) ≡ (x && (y && z))
-and-assoc true y z = refl
-and-assoc false y z = refl
-
--- no fault of the literals: each names a contact
-no-fault : (place : Option ℕ) → elim place as (λ _. Option SolverFault) [ None ↦ None | Some k ↦ Some (BadLiteral k) ] ≡ None → place ≡ None
-no-fault None h = refl
-no-fault (Some k) h = absurd (let z : _≡_ {A = ℕ} 0 1 = cc in omega arith)
-
-module _ (s : ClauseSolver) (o : InOrder s) (ls : List ℤ) (faultless : literal-fault (clause-meaning s) ls ≡ None) where
-  named : first-unnamed (s .contacts) ls ≡ None
-  named = no-fault (first-unnamed (s .contacts) ls) faultless
-
+module _ (s : ClauseSolver) (o : InOrder s) (ls : List ℤ) (named : first-unnamed (s .contacts) ls ≡ None) where
   -- what is searched for, at the contacts x and the inner variables y
   whole : List Bool → Bool
   whole z = clause-good s z && agreeing (from-set (set-of ls)) z
 
-  -- what the contacts alone decide
-  rest : List Bool → Bool
-  rest x = all-met (items (s .added)) x && not (any-covers (map opposite (items (s .bars))) x)
-
-  whole-split : (x y : List Bool) → length x ≡ s .contacts → length y ≡ s .inner → whole (x ++ y) ≡ ((all-met (s .rules .now) (x ++ y) && rest x) && fits ls x)
-  unfolding whole rest
+  whole-split : (x y : List Bool) → length x ≡ s .contacts → length y ≡ s .inner → whole (x ++ y) ≡ ((all-met (s .rules .now) (x ++ y) && passes (s .additions) x) && fits ls x)
+  unfolding whole
   whole-split x y ex ey =
-      let front = take-front x y (s .contacts) ex in
-      ap₂ (λ p q. (all-met (s .rules .now) (x ++ y) && p) && q)
-      (ap (λ z. all-met (items (s .added)) z && all-met (items (s .bars)) z) front ∙ ap (λ b. all-met (items (s .added)) x && b) (all-met-bars (items (s .bars)) x))
+      ap₂ (λ p q. (all-met (s .rules .now) (x ++ y) && p) && q) (ap (passes (s .additions)) (take-front x y (s .contacts) ex))
       (asked-front ls x y (omega (arith, length-append x y, o .few-variables)) (ap (λ n. first-unnamed n ls) ex ∙ named))
 
   stands-split : (x : List Bool) → length x ≡ s .contacts → some (s .inner) (λ y. whole (x ++ y)) ≡ stands-with (clause-meaning s) ls x
-  unfolding rest
   stands-split x ex =
-      some-alike (s .inner) (λ y. whole (x ++ y)) (λ y. (all-met (s .rules .now) (x ++ y) && rest x) && fits ls x) (λ y ey. whole-split x y ex ey)
-      ∙ some-and (s .inner) (λ y. all-met (s .rules .now) (x ++ y) && rest x) (fits ls x)
-      ∙ ap (λ b. b && fits ls x) (some-and (s .inner) (λ y. all-met (s .rules .now) (x ++ y)) (rest x))
+      some-alike (s .inner) (λ y. whole (x ++ y)) (λ y. (all-met (s .rules .now) (x ++ y) && passes (s .additions) x) && fits ls x) (λ y ey. whole-split x y ex ey)
+      ∙ some-and (s .inner) (λ y. all-met (s .rules .now) (x ++ y) && passes (s .additions) x) (fits ls x)
+      ∙ ap (λ b. b && fits ls x) (some-and (s .inner) (λ y. all-met (s .rules .now) (x ++ y)) (passes (s .additions) x))
 
-  pub answered-none : Answer (s .contacts + s .inner) (clause-good s) (from-set (set-of ls)) None → Answers (clause-meaning s) ls None
+  pub answered-none : Answer (clause-variables s) (clause-good s) (from-set (set-of ls)) None → Answers (clause-meaning s) ls None
   unfolding whole
   answered-none h =
       sym (some-alike (s .contacts) (λ x. some (s .inner) (λ y. whole (x ++ y))) (stands-with (clause-meaning s) ls) stands-split)
@@ -140,7 +99,7 @@ module _ (s : ClauseSolver) (o : InOrder s) (ls : List ℤ) (faultless : literal
   low-bit : (a : Assignment) (k : ℕ) → k < 32 → bit (low-half a .closed) k ≡ bit (a .closed) k
   low-bit a k lt = bit-and (a .closed) 0xffff_ffff k ∙ ap (λ b. bit (a .closed) k && b) (bit-ones 32 k lt) ∙ and-true (bit (a .closed) k)
 
-  pub answered-some : (a : Assignment) → Answer (s .contacts + s .inner) (clause-good s) (from-set (set-of ls)) (Some a) → Answers (clause-meaning s) ls (Some (low-half a))
+  pub answered-some : (a : Assignment) → Answer (clause-variables s) (clause-good s) (from-set (set-of ls)) (Some a) → Answers (clause-meaning s) ls (Some (low-half a))
   unfolding whole
   answered-some a h =
       let n = s .contacts in

@@ -1,37 +1,27 @@
 -- What a clause solver means.
 use mathlib.Core.Path.{_≡_}
 use mathlib.Core.Bool.{Bool, true, false, _&&_, _||_}
-use mathlib.Core.List.{List, [], _∷_, map, _++_}
+use mathlib.Core.List.{List, [], map, _++_}
 use Prim.Native.Nat.{ℕ, _+_, _-_, _≤_}
 use lib.Bits.{bitAnd}
 use lib.Dec.{leb}
-use lib.IntN.{ℤ}
 use lib.ListN.{take}
-use Rattle.std.specs.declared.option.Option.{Option}
-use Rattle.std.specs.declared.option.Option.the-variants.{Some, None}
 use Rattle.std.specs.declared.result.Result.{Result}
 use Rattle.std.specs.declared.result.Result.the-variants.{Ok, Err}
-use Rattle.faults.specs.declared.SolverFault.{SolverFault}
-use Rattle.faults.specs.declared.SolverFault.the-variants.{TooManyRules, TooManyBars}
 use Rattle.faults.specs.declared.SheetFault.{SheetFault}
 use Rattle.faults.specs.declared.SheetFault.the-variants.{WrongContacts}
 use Rattle.literals.specs.declared.LiteralSet.{LiteralSet}
-use Rattle.literals.specs.Literals.{set-of}
-use Rattle.tables.specs.Tables.{items}
 use Rattle.settings.specs.declared.Setting.{Setting}
 use Rattle.settings.specs.Settings.{all-met}
 use Rattle.settings.specs.Least.{some}
-use Rattle.solver.specs.Meaning.{Meaning, meaning-from, full-fault, appended}
+use Rattle.solver.specs.Meaning.{Meaning, meaning-from}
+use Rattle.additions.specs.Additions.{rules-of, bars-of, passes}
 use Rattle.search.specs.declared.Assignment.{Assignment}
 use Rattle.rules.specs.declared.Scan.{Scan}
 use Rattle.rules.specs.declared.Scan.the-variants.{Failed, Forced, Quiet}
-use Rattle.rules.specs.Rules.{scanned, any-unmet}
+use Rattle.rules.specs.Rules.{as-rule, scanned, any-unmet}
 use Rattle.clauses.specs.declared.counts.VariableCounts.{VariableCounts}
 use Rattle.clauses.specs.declared.ClauseSolver.{ClauseSolver}
-
--- a bar's opposite literals, as a rule: met exactly where the bar does not cover
-abbrev pub opposite : LiteralSet → LiteralSet
-opposite s = record { closed = s .opened; opened = s .closed }
 
 abbrev pub clause-contacts : ClauseSolver → ℕ
 clause-contacts s = s .contacts
@@ -44,10 +34,10 @@ abbrev pub clause-base : ClauseSolver → List Bool → Bool
 clause-base s x = some (s .inner) (λ y. all-met (s .rules .now) (x ++ y))
 
 abbrev pub clause-added : ClauseSolver → List LiteralSet
-clause-added s = items (s .added)
+clause-added s = rules-of (s .additions)
 
 abbrev pub clause-bars : ClauseSolver → List LiteralSet
-clause-bars s = map opposite (items (s .bars))
+clause-bars s = bars-of (s .additions)
 
 abbrev pub clause-meaning : ClauseSolver → Meaning
 clause-meaning s = meaning-from clause-contacts clause-base clause-added clause-bars s
@@ -75,30 +65,9 @@ in-order-few s o = (o .some-contact, o .few-contacts)
 pub in-order-variables : (s : ClauseSolver) → InOrder s → s .contacts + s .inner ≤ 64
 in-order-variables s o = o .few-variables
 
--- whether there is room for one more rule, and the meaning with it
-abbrev pub rule-room : ClauseSolver → Option SolverFault
-rule-room s = full-fault None (clause-added s) TooManyRules
-
-abbrev pub holding-rule : ClauseSolver → List ℤ → Meaning
-holding-rule s ls = record { contacts = s .contacts; base = clause-base s; added = appended (rule-room s) (clause-added s) ls; bars = clause-bars s }
-
--- the same of bars, by the rules as which they are held
-abbrev pub held-meaning : ClauseSolver → Meaning
-held-meaning s = record { contacts = s .contacts; base = clause-base s; added = clause-added s; bars = items (s .bars) }
-
-abbrev pub bar-room : ClauseSolver → Option SolverFault
-bar-room s = full-fault None (items (s .bars)) TooManyBars
-
-abbrev pub with-set : Option SolverFault → List LiteralSet → LiteralSet → List LiteralSet
-with-set None held set = held ++ set ∷ []
-with-set (Some f) held set = held
-
-abbrev pub holding-bar : ClauseSolver → List ℤ → Meaning
-holding-bar s ls = record { contacts = s .contacts; base = clause-base s; added = clause-added s; bars = with-set (bar-room s) (items (s .bars)) (opposite (set-of ls)) }
-
--- what the search looks for, over contacts and inner variables: all loaded rules are met, and by the contacts alone the added rules and those of the bars
+-- what the search looks for, over contacts and inner variables: all loaded rules are met, and by the contacts alone the added rules, and no bar covers these
 abbrev pub clause-good : ClauseSolver → List Bool → Bool
-clause-good s x = all-met (s .rules .now) x && (all-met (items (s .added)) (take (s .contacts) x) && all-met (items (s .bars)) (take (s .contacts) x))
+clause-good s x = all-met (s .rules .now) x && passes (s .additions) (take (s .contacts) x)
 
 -- what the first of two looks found, else the second
 abbrev pub else-scan : Scan → Scan → Scan
@@ -107,10 +76,14 @@ else-scan Failed later = Failed
 else-scan (Forced k b) later = Forced k b
 
 abbrev pub clause-scan : ClauseSolver → Assignment → Scan
-clause-scan s a = else-scan (scanned (s .contacts + s .inner) (s .rules .now) a) (else-scan (scanned (s .contacts) (items (s .added)) a) (scanned (s .contacts) (items (s .bars)) a))
+clause-scan s a =
+    else-scan (scanned (clause-variables s) (map (as-rule false) (s .rules .now)) a)
+    (else-scan (scanned (s .contacts) (map (as-rule false) (rules-of (s .additions))) a) (scanned (s .contacts) (map (as-rule true) (bars-of (s .additions))) a))
 
 abbrev pub clause-unmet : ClauseSolver → Assignment → Bool
-clause-unmet s a = (any-unmet (s .contacts + s .inner) (s .rules .now) a || any-unmet (s .contacts) (items (s .added)) a) || any-unmet (s .contacts) (items (s .bars)) a
+clause-unmet s a =
+    (any-unmet (clause-variables s) (map (as-rule false) (s .rules .now)) a || any-unmet (s .contacts) (map (as-rule false) (rules-of (s .additions))) a)
+    || any-unmet (s .contacts) (map (as-rule true) (bars-of (s .additions))) a
 
 -- the setting of the first 32 variables
 abbrev pub low-half : Assignment → Setting

@@ -2,8 +2,10 @@
 ghost use mathlib.Core.Path.{_≡_};
 ghost use Prim.Native.Nat.{ℕ, _+_, _≤_};
 ghost use Rattle.std.specs.declared.option.Option.the-variants.{None};
-ghost use Rattle.solver.specs.Meaning.{literal-fault, Answers, outcome};
-ghost use Rattle.clauses.specs.Clauses.{Counted, loaded-meaning, clause-contacts, clause-variables, opposite, clause-scan, clause-unmet, clause-base, clause-added, clause-bars, clause-good, clause-meaning, held-meaning, rule-room, bar-room, holding-rule, holding-bar, InOrder, in-order-few, in-order-variables, low-half};
+ghost use Rattle.literals.specs.Literals.{first-unnamed};
+ghost use Rattle.solver.specs.Meaning.{Answers};
+ghost use Rattle.clauses.specs.Clauses.{Counted, loaded-meaning, clause-contacts, clause-variables, clause-base, clause-added, clause-bars, clause-meaning, clause-good, clause-scan, clause-unmet, InOrder, in-order-few, in-order-variables, low-half};
+use additions::Additions;
 use counts::VariableCounts;
 use faults::SheetFault;
 use faults::SolverFault;
@@ -17,27 +19,16 @@ use search::Found;
 use search::Look;
 use settings::Setting;
 use solver::Solver;
-use tables::table::Table;
 
 pub mod counts;
 
-// The loaded rules lie as records in the store that the caller lends. Each bar is held as the rule of its opposite literals, which is met exactly where the bar does not cover.
+// The loaded rules lie as records in the store that the caller lends.
 #[derive(Drop)]
 pub struct ClauseSolver<'a> {
     rules: &'a [LiteralSet],
     contacts: u8,
     inner: u8,
-    added: Table<LiteralSet, 64>,
-    bars: Table<LiteralSet, 64>,
-}
-
-fn opposite_of(set: LiteralSet) -> LiteralSet
-    ensures opposite { λ r. ⌜ r ≡ opposite set ⌝ }
-{
-    LiteralSet {
-        closed: set.opened,
-        opened: set.closed,
-    }
+    additions: Additions,
 }
 
 // The closed contacts of the first 32 variables.
@@ -75,8 +66,7 @@ impl<'a> ClauseSolver<'a> {
             rules,
             contacts: counts.contacts,
             inner: counts.inner,
-            added: Table::new(LiteralSet::empty()),
-            bars: Table::new(LiteralSet::empty()),
+            additions: Additions::none(),
         }
     }
 
@@ -96,14 +86,19 @@ impl<'a> ClauseSolver<'a> {
 }
 
 impl ClauseSolver<'_> {
-    // The first rule that forces a literal or has failed: among the loaded rules, then the added ones, then those that the bars make.
+    // The first rule that forces a literal or has failed: among the loaded rules, then the added ones, then the bars as rules.
     fn scan(&self, assignment: Assignment) -> Scan
         requires ordered { ⌜ InOrder (now self) ⌝ }
         ensures first { λ r. ⌜ r ≡ clause-scan (now (self .entry)) assignment ⌝ }
     {
-        match find_forced(self.rules, self.contacts + self.inner, assignment) {
-            Scan::Quiet => match find_forced(self.added.as_slice(), self.contacts, assignment) {
-                Scan::Quiet => find_forced(self.bars.as_slice(), self.contacts, assignment),
+        match find_forced(self.rules, false, self.contacts + self.inner, assignment) {
+            Scan::Quiet => match find_forced(
+                self.additions.rules(),
+                false,
+                self.contacts,
+                assignment,
+            ) {
+                Scan::Quiet => find_forced(self.additions.bars(), true, self.contacts, assignment),
                 found => found,
             },
             found => found,
@@ -115,47 +110,15 @@ impl ClauseSolver<'_> {
         ensures unmet { λ r. ⌜ r .unmet ≡ clause-unmet (now (self .entry)) assignment ⌝ }
     {
         let mut tally = Tally::empty();
-        tally.add(self.rules, self.contacts + self.inner, assignment);
-        tally.add(self.added.as_slice(), self.contacts, assignment);
-        tally.add(self.bars.as_slice(), self.contacts, assignment);
+        tally.add(self.rules, false, self.contacts + self.inner, assignment);
+        tally.add(self.additions.rules(), false, self.contacts, assignment);
+        tally.add(self.additions.bars(), true, self.contacts, assignment);
         tally
-    }
-
-    // The fault of the first literal that names no contact.
-    fn refusal(&self, literals: &[i8]) -> Option<SolverFault>
-        ensures fault { λ r. ⌜ r ≡ literal-fault (clause-meaning (now (self .entry))) (now (literals .entry)) ⌝ }
-    {
-        match find_unnamed(self.contacts as usize, literals) {
-            Some(place) => Some(SolverFault::BadLiteral(place)),
-            None => None,
-        }
-    }
-
-    fn hold_rule(&mut self, literals: &[i8]) -> Result<(), SolverFault>
-        ensures answer { λ r. ⌜ r ≡ outcome (rule-room (now (self .entry))) ⌝ }
-        ensures held { λ _. ⌜ clause-meaning (now (self .exit)) ≡ holding-rule (now (self .entry)) (now (literals .entry)) ⌝ }
-        ensures ordered { λ _. ⌜ (InOrder (now (self .entry)) → InOrder (now (self .exit))) ⌝ }
-    {
-        match self.added.push(LiteralSet::of(literals)) {
-            Ok(()) => Ok(()),
-            Err(_) => Err(SolverFault::TooManyRules),
-        }
-    }
-
-    fn hold_bar(&mut self, literals: &[i8]) -> Result<(), SolverFault>
-        ensures answer { λ r. ⌜ r ≡ outcome (bar-room (now (self .entry))) ⌝ }
-        ensures held { λ _. ⌜ held-meaning (now (self .exit)) ≡ holding-bar (now (self .entry)) (now (literals .entry)) ⌝ }
-        ensures ordered { λ _. ⌜ (InOrder (now (self .entry)) → InOrder (now (self .exit))) ⌝ }
-    {
-        match self.bars.push(opposite_of(LiteralSet::of(literals))) {
-            Ok(()) => Ok(()),
-            Err(_) => Err(SolverFault::TooManyBars),
-        }
     }
 
     fn answer(&self, literals: &[i8]) -> Option<Setting>
         requires ordered { ⌜ InOrder (now self) ⌝ }
-        requires named { ⌜ literal-fault (clause-meaning (now self)) (now literals) ≡ None ⌝ }
+        requires named { ⌜ first-unnamed (now self .contacts) (now literals) ≡ None ⌝ }
         ensures answer { λ r. ⌜ Answers (clause-meaning (now (self .entry))) (now (literals .entry)) r ⌝ }
     {
         match search::find(self, Assignment::of(LiteralSet::of(literals))) {
@@ -209,27 +172,21 @@ pub impl<'a> Solver for ClauseSolver<'a> as ClauseSolves {
     }
 
     fn ask(&mut self, literals: &[i8]) -> Result<Option<Setting>, SolverFault> {
-        match self.refusal(literals) {
-            Some(fault) => Err(fault),
-            None => Ok(self.answer(literals)),
+        if let Some(place) = find_unnamed(self.contacts as usize, literals) {
+            return Err(SolverFault::BadLiteral(place));
         }
+        Ok(self.answer(literals))
     }
 
     fn add(&mut self, literals: &[i8]) -> Result<(), SolverFault> {
-        match self.refusal(literals) {
-            Some(fault) => Err(fault),
-            None => self.hold_rule(literals),
-        }
+        self.additions.add(self.contacts as usize, literals)
     }
 
     fn bar(&mut self, literals: &[i8]) -> Result<(), SolverFault> {
-        match self.refusal(literals) {
-            Some(fault) => Err(fault),
-            None => self.hold_bar(literals),
-        }
+        self.additions.bar(self.contacts as usize, literals)
     }
 
     fn clear(&mut self) {
-        self.bars.clear();
+        self.additions.clear_bars();
     }
 }

@@ -1,7 +1,7 @@
 -- A look over the variables of a rule, step by step.
 use mathlib.Core.Path.{_≡_, refl, sym, ap, _∙_}
 use mathlib.Core.Bool.{Bool, true, false, not, _||_}
-use mathlib.Core.List.{List}
+use mathlib.Core.List.{List, map}
 use Prim.Native.Nat.{ℕ, zero, suc, _+_, _-_, _<_, _≤_}
 use native.Mathlib.Omega.{arith}
 use lib.ListN.{length, getD, drop}
@@ -15,7 +15,7 @@ use Rattle.search.specs.declared.Assignment.{Assignment}
 use Rattle.rules.specs.declared.Scan.{Scan}
 use Rattle.rules.specs.declared.Scan.the-variants.{Failed, Forced, Quiet}
 use Rattle.search.specs.Assignments.{low-mask}
-use Rattle.rules.specs.Rules.{masked, restricted, touched, passes, loose-at, first-loose, scanned, any-unmet}
+use Rattle.rules.specs.Rules.{as-rule, masked, restricted, touched, passes, loose-at, first-loose, scanned, any-unmet}
 
 module _ (r : LiteralSet) (a : Assignment) (n k : ℕ) where
   one-more : k < n → first-loose k (n - k) r a ≡ first-loose k (suc (n - (k + 1))) r a
@@ -37,21 +37,24 @@ or-assoc true y z = refl
 or-assoc false y z = refl
 
 -- the rule at a place, as the look takes it
-module _ (n : ℕ) (a : Assignment) (rs : List LiteralSet) (i : ℕ) (lt : i < length rs) (mask : ℕ) (r : LiteralSet) (em : mask ≡ low-mask n) (er : r ≡ masked mask (getD rs i no-literals)) where
-  taken-so : r ≡ restricted n (getD rs i no-literals)
-  taken-so = er ∙ ap (λ m. masked m (getD rs i no-literals)) em
+module _ (n : ℕ) (a : Assignment) (bars : Bool) (ss : List LiteralSet) (i : ℕ) (lt : i < length ss) (mask : ℕ) (r : LiteralSet) (em : mask ≡ low-mask n) (er : r ≡ masked mask (as-rule bars (getD ss i no-literals))) where
+  taken-so : r ≡ restricted n (as-rule bars (getD ss i no-literals))
+  taken-so = er ∙ ap (λ m. masked m (as-rule bars (getD ss i no-literals))) em
 
-  pub scan-next : passes r a ≡ true → scanned n (drop i rs) a ≡ scanned n (drop (i + 1) rs) a
-  scan-next h = at-drop-more (λ rs. scanned n rs a) rs i no-literals lt ∙ cond-true (passes (restricted n (getD rs i no-literals)) a) _ _ (ap (λ r. passes r a) (sym taken-so) ∙ h)
+  pub scan-next : passes r a ≡ true → scanned n (map (as-rule bars) (drop i ss)) a ≡ scanned n (map (as-rule bars) (drop (i + 1) ss)) a
+  scan-next h =
+      at-drop-more (λ ss. scanned n (map (as-rule bars) ss) a) ss i no-literals lt
+      ∙ cond-true (passes (restricted n (as-rule bars (getD ss i no-literals))) a) _ _ (ap (λ r. passes r a) (sym taken-so) ∙ h)
 
-  pub scan-here : passes r a ≡ false → scanned n (drop i rs) a ≡ first-loose 0 n r a
+  pub scan-here : passes r a ≡ false → scanned n (map (as-rule bars) (drop i ss)) a ≡ first-loose 0 n r a
   scan-here h =
-      at-drop-more (λ rs. scanned n rs a) rs i no-literals lt ∙ cond-false (passes (restricted n (getD rs i no-literals)) a) _ _ (ap (λ r. passes r a) (sym taken-so) ∙ h)
+      at-drop-more (λ ss. scanned n (map (as-rule bars) ss) a) ss i no-literals lt
+      ∙ cond-false (passes (restricted n (as-rule bars (getD ss i no-literals))) a) _ _ (ap (λ r. passes r a) (sym taken-so) ∙ h)
       ∙ ap (λ r. first-loose 0 n r a) (sym taken-so)
 
-  pub unmet-next : (t t′ : Bool) → t′ ≡ (t || not (touched r a)) → (t || any-unmet n (drop i rs) a) ≡ (t′ || any-unmet n (drop (i + 1) rs) a)
+  pub unmet-next : (t t′ : Bool) → t′ ≡ (t || not (touched r a)) → (t || any-unmet n (map (as-rule bars) (drop i ss)) a) ≡ (t′ || any-unmet n (map (as-rule bars) (drop (i + 1) ss)) a)
   unmet-next t t′ e =
-      ap (λ b. t || b) (at-drop-more (λ rs. any-unmet n rs a) rs i no-literals lt)
-      ∙ ap (λ r. t || (not (touched r a) || any-unmet n (drop (i + 1) rs) a)) (sym taken-so)
-      ∙ sym (or-assoc t (not (touched r a)) (any-unmet n (drop (i + 1) rs) a))
-      ∙ ap (λ b. b || any-unmet n (drop (i + 1) rs) a) (sym e)
+      ap (λ b. t || b) (at-drop-more (λ ss. any-unmet n (map (as-rule bars) ss) a) ss i no-literals lt)
+      ∙ ap (λ r. t || (not (touched r a) || any-unmet n (map (as-rule bars) (drop (i + 1) ss)) a)) (sym taken-so)
+      ∙ sym (or-assoc t (not (touched r a)) (any-unmet n (map (as-rule bars) (drop (i + 1) ss)) a))
+      ∙ ap (λ b. b || any-unmet n (map (as-rule bars) (drop (i + 1) ss)) a) (sym e)

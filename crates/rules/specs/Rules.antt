@@ -10,10 +10,16 @@ use Rattle.std.specs.declared.option.Option.{Option}
 use Rattle.std.specs.declared.option.Option.the-variants.{Some, None}
 use Rattle.literals.specs.Bits.{bit}
 use Rattle.literals.specs.declared.LiteralSet.{LiteralSet}
+use Rattle.settings.specs.Settings.{opposite}
 use Rattle.search.specs.declared.Assignment.{Assignment}
 use Rattle.search.specs.Assignments.{decided, low-mask}
 use Rattle.rules.specs.declared.Scan.{Scan}
 use Rattle.rules.specs.declared.Scan.the-variants.{Failed, Forced, Quiet}
+
+-- a set of literals as a rule; a bar (true) as the rule of the opposite ones, which is met exactly where the bar does not cover
+abbrev pub as-rule : Bool → LiteralSet → LiteralSet
+as-rule true s = opposite s
+as-rule false s = s
 
 -- a rule's literals on the variables of a mask, and on the first n
 abbrev pub masked : ℕ → LiteralSet → LiteralSet

@@ -1,9 +1,8 @@
 // What a list of rules says of an assignment: the first rule that forces a literal or has failed, and a variable that is worth a try.
 ghost use mathlib.Core.Path.{_≡_};
 ghost use mathlib.Core.Bool.{Bool, true, false, not, _||_};
-ghost use Prim.Native.Nat.{ℕ, _<_};
-ghost use Rattle.search.specs.Assignments.{decided};
-ghost use Rattle.rules.specs.Rules.{masked, touched, left-mask, several, passes, loose-at, scanned, any-unmet, Choice};
+ghost use mathlib.Core.List.{map};
+ghost use Rattle.rules.specs.Rules.{as-rule, masked, touched, left-mask, several, passes, loose-at, scanned, any-unmet, Choice};
 use literals::LiteralSet;
 use search::Assignment;
 use search::mask_below;
@@ -18,13 +17,20 @@ pub enum Scan {
     Quiet,
 }
 
-// The rule's literals on the variables of a mask.
-fn masked(rule: LiteralSet, mask: u64) -> LiteralSet
-    ensures masked { λ r. ⌜ r ≡ masked mask rule ⌝ }
+// The rule of a set of literals, on the variables of a mask: those literals, or where the set is a bar the opposite ones.
+fn rule_of(set: LiteralSet, as_bar: bool, mask: u64) -> LiteralSet
+    ensures rule { λ r. ⌜ r ≡ masked mask (as-rule «as_bar» set) ⌝ }
 {
-    LiteralSet {
-        closed: rule.closed & mask,
-        opened: rule.opened & mask,
+    if as_bar {
+        LiteralSet {
+            closed: set.opened & mask,
+            opened: set.closed & mask,
+        }
+    } else {
+        LiteralSet {
+            closed: set.closed & mask,
+            opened: set.opened & mask,
+        }
     }
 }
 
@@ -75,14 +81,19 @@ fn wanted(rule: LiteralSet, assignment: Assignment, variable: u8) -> Option<bool
     }
 }
 
-// What the first rule says that forces a literal or has failed, each rule taken on the first variables.
-pub fn find_forced(rules: &[LiteralSet], variables: u8, assignment: Assignment) -> Scan
-    ensures first { λ r. ⌜ r ≡ scanned variables (now (rules .entry)) assignment ⌝ }
+// What the first rule says that forces a literal or has failed, each taken on the first variables.
+pub fn find_forced(
+    sets: &[LiteralSet],
+    as_bars: bool,
+    variables: u8,
+    assignment: Assignment,
+) -> Scan
+    ensures first { λ r. ⌜ r ≡ scanned variables (map (as-rule «as_bars») (now (sets .entry))) assignment ⌝ }
 {
     let mask = mask_below(variables);
     'look: {
-        for record in rules {
-            let rule = masked(*record, mask);
+        for set in sets {
+            let rule = rule_of(*set, as_bars, mask);
             if is_quiet(rule, assignment) {
                 continue;
             }
@@ -172,13 +183,13 @@ impl Tally {
         }
     }
 
-    // Counts in more rules, each taken on the first variables.
-    pub fn add(&mut self, rules: &[LiteralSet], variables: u8, assignment: Assignment)
-        ensures unmet { λ _. ⌜ now (self .exit) .unmet ≡ (now (self .entry) .unmet || any-unmet variables (now (rules .entry)) assignment) ⌝ }
+    // Counts in more rules, or bars as rules, each taken on the first variables.
+    pub fn add(&mut self, sets: &[LiteralSet], as_bars: bool, variables: u8, assignment: Assignment)
+        ensures unmet { λ _. ⌜ now (self .exit) .unmet ≡ (now (self .entry) .unmet || any-unmet variables (map (as-rule «as_bars») (now (sets .entry))) assignment) ⌝ }
     {
         let mask = mask_below(variables);
-        for record in rules {
-            self.note(masked(*record, mask), assignment);
+        for set in sets {
+            self.note(rule_of(*set, as_bars, mask), assignment);
         }
     }
 

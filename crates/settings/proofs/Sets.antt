@@ -17,7 +17,7 @@ use Rattle.literals.specs.declared.LiteralSet.{LiteralSet}
 use Rattle.literals.specs.Bits.{bit}
 use Rattle.literals.specs.Literals.{names, first-unnamed, no-literals, inserted, with-literal, set-of, has}
 use Rattle.literals.proofs.Bits.{bit-zero, bit-more}
-use Rattle.settings.specs.Settings.{agrees, met, fits, literal, meets-from, covers-from, meets, covers}
+use Rattle.settings.specs.Settings.{agrees, met, fits, literal, meets-from, covers-from, meets, covers, opposite}
 use Rattle.settings.specs.Laws.{Said-Alike, Sets-Law}
 
 -- ---- lists whose literals all name a contact
@@ -100,11 +100,7 @@ meets-more s (negsuc k) x h = meets-one s k false x (ltb-true k (length x) h)
 
 -- ---- a bar as the rule of the opposite literals
 
-unfoldable pub opposite : LiteralSet → LiteralSet
-opposite s = record { closed = s .opened; opened = s .closed }
-
 has-opposite : (s : LiteralSet) (k : ℕ) (b : Bool) → has (opposite s) k b ≡ has s k (not b)
-unfolding opposite
 has-opposite s k true = refl
 has-opposite s k false = refl
 
@@ -127,7 +123,6 @@ not-not true = refl
 not-not false = refl
 
 covers-one : (s : LiteralSet) (i : ℕ) (b : Bool) (x : List Bool) → i < length x → covers (inserted s (literal i b)) x ≡ (covers s x && agrees x (literal i b))
-unfolding opposite
 covers-one s i true x lt =
     bar-is-rule (inserted s (literal i true)) x ∙ ap not (meets-one (opposite s) i false x lt) ∙ not-or (meets (opposite s) x) (not (getD x i false))
     ∙ ap₂ (λ p q. p && q) (sym (bar-is-rule s x)) (not-not (getD x i false))

@@ -65,6 +65,10 @@ meets s x = meets-from 0 s x
 abbrev pub covers : LiteralSet → List Bool → Bool
 covers s x = covers-from 0 s x
 
+-- the opposite literals: a rule of them is met exactly where a bar of the literals does not cover
+abbrev pub opposite : LiteralSet → LiteralSet
+opposite s = record { closed = s .opened; opened = s .closed }
+
 -- the set has a literal that a contact agrees with (false), or one that a contact opposes (true)
 abbrev pub any-held : Bool → ℕ → LiteralSet → List Bool → Bool
 any-held false j s x = meets-from j s x

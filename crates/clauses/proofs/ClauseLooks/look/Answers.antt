@@ -1,8 +1,7 @@
 use mathlib.Core.Path.{_≡_, sym, subst, _∙_}
-use Prim.Native.Nat.{_+_}
 use Rattle.std.specs.declared.option.Option.the-variants.{None}
 use Rattle.rules.specs.Rules.{Choice}
-use Rattle.clauses.specs.Clauses.{clause-good}
+use Rattle.clauses.specs.Clauses.{clause-variables, clause-good}
 use Rattle.clauses.proofs.Sums.{Sums, scan-sums, quiet-met}
 use Rattle.clauses.proofs.ClauseLooks.look.Needs as need
 
@@ -10,16 +9,16 @@ pub returns-in-Failed : need.returns-in-Failed
 returns-in-Failed c =
     let s = c .args .self .now in
     let a = c .args .assignment in
-    record { says = subst (Sums (s .contacts + s .inner) (clause-good s) a) (sym (c .in-Failed .ensures tt .first)) (scan-sums s (c .pre .ordered) a) }
+    record { says = subst (Sums (clause-variables s) (clause-good s) a) (sym (c .in-Failed .ensures tt .first)) (scan-sums s (c .pre .ordered) a) }
 
 pub returns-in-Forced : need.returns-in-Forced
 returns-in-Forced c =
     let s = c .args .self .now in
     let a = c .args .assignment in
-    record { says = subst (Sums (s .contacts + s .inner) (clause-good s) a) (sym (c .in-Forced .ensures tt .first)) (scan-sums s (c .pre .ordered) a) }
+    record { says = subst (Sums (clause-variables s) (clause-good s) a) (sym (c .in-Forced .ensures tt .first)) (scan-sums s (c .pre .ordered) a) }
 
 pub returns-in-None : need.returns-in-None
 returns-in-None c =
     let s = c .args .self .now in
     let a = c .args .assignment in
-    record { says = quiet-met s (c .pre .ordered) a (c .in-Quiet .ensures tt .first) (subst (λ b. Choice (s .contacts + s .inner) a b None) (c .tally .ensures .unmet) (c .in-None .ensures tt .choice)) }
+    record { says = quiet-met s (c .pre .ordered) a (c .in-Quiet .ensures tt .first) (subst (λ b. Choice (clause-variables s) a b None) (c .tally .ensures .unmet) (c .in-None .ensures tt .choice)) }

@@ -1,10 +1,9 @@
 use mathlib.Core.Path.{_≡_, sym, subst, ap, _∙_}
-use Prim.Native.Nat.{_+_}
 use Rattle.std.specs.declared.option.Option.the-variants.{Some, None}
 use Rattle.search.specs.Search.{Answer}
 use Rattle.solver.specs.Meaning.{Answers}
 use Rattle.search.specs.Assignments.{from-set}
-use Rattle.clauses.specs.Clauses.{clause-good, clause-meaning}
+use Rattle.clauses.specs.Clauses.{clause-variables, clause-good, clause-meaning}
 use Rattle.clauses.proofs.Answered.{answered-none, answered-some}
 use Rattle.clauses.proofs.ClauseSolver.answer.Needs as need
 
@@ -16,7 +15,7 @@ returns-in-Some c =
     record {
       answer = subst (λ x. Answers (clause-meaning s) ls (Some x)) (sym (c .setting-in .ensures .setting))
           (answered-some s (c .pre .ordered) ls (c .pre .named) found
-          (subst (λ a. Answer (s .contacts + s .inner) (clause-good s) a (Some found)) (c .of-2 .ensures .same ∙ ap from-set (c .of .ensures .collected)) (c .in-Some .ensures tt .answer)));
+          (subst (λ a. Answer (clause-variables s) (clause-good s) a (Some found)) (c .of-2 .ensures .same ∙ ap from-set (c .of .ensures .collected)) (c .in-Some .ensures tt .answer)));
     }
 
 pub returns-in-None : need.returns-in-None
@@ -25,5 +24,5 @@ returns-in-None c =
     let ls = c .args .literals .now in
     record {
       answer = answered-none s (c .pre .ordered) ls (c .pre .named)
-          (subst (λ a. Answer (s .contacts + s .inner) (clause-good s) a None) (c .of-2 .ensures .same ∙ ap from-set (c .of .ensures .collected)) (c .in-None .ensures tt .answer));
+          (subst (λ a. Answer (clause-variables s) (clause-good s) a None) (c .of-2 .ensures .same ∙ ap from-set (c .of .ensures .collected)) (c .in-None .ensures tt .answer));
     }

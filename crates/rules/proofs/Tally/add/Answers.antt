@@ -1,7 +1,8 @@
 use mathlib.Core.Path.{_≡_, refl, sym, ap, _∙_}
 use mathlib.Core.Bool.{Bool, true, false, _||_}
+use mathlib.Core.List.{map}
 use Rattle.std.proofs.shelf.Lists.{at-drop-all}
-use Rattle.rules.specs.Rules.{any-unmet}
+use Rattle.rules.specs.Rules.{as-rule, any-unmet}
 use Rattle.rules.proofs.Scans.{unmet-next}
 use Rattle.rules.proofs.Tally.add.Needs as need
 
@@ -9,12 +10,12 @@ or-false : (x : Bool) → (x || false) ≡ x
 or-false true = refl
 or-false false = refl
 
-pub loop-record-again : need.loop-record-again
-loop-record-again c =
-    c .loop-record .inv
-    ∙ unmet-next (c .args .variables) (c .args .assignment) (c .args .rules .now) (c .loop-record .record-index) (c .loop-record-test .taken) _ _ (c .mask-below-mask .ensures .mask) (c .masked .ensures .masked) (c .loop-record .self .unmet) _ (c .note .ensures .unmet)
+pub loop-set-again : need.loop-set-again
+loop-set-again c =
+    c .loop-set .inv
+    ∙ unmet-next (c .args .variables) (c .args .assignment) (c .args .as-bars) (c .args .sets .now) (c .loop-set .set-index) (c .loop-set-test .taken) _ _ (c .mask-below-mask .ensures .mask) (c .rule-of .ensures .rule) (c .loop-set .self .unmet) _ (c .note .ensures .unmet)
 
 pub returns : need.returns
 returns c =
-    let t = c .loop-record .self .unmet in
-    record { unmet = sym (c .loop-record .inv ∙ ap (λ b. t || b) (at-drop-all (λ rs. any-unmet (c .args .variables) rs (c .args .assignment)) (c .args .rules .now) _ (c .loop-record-test .left)) ∙ or-false t) }
+    let t = c .loop-set .self .unmet in
+    record { unmet = sym (c .loop-set .inv ∙ ap (λ b. t || b) (at-drop-all (λ ss. any-unmet (c .args .variables) (map (as-rule (c .args .as-bars)) ss) (c .args .assignment)) (c .args .sets .now) _ (c .loop-set-test .left)) ∙ or-false t) }
