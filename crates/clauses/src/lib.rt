@@ -74,7 +74,7 @@ impl<'a> ClauseSolver<'a> {
     pub fn rules(&self) -> &'a [LiteralSet]
         ensures loaded { λ r. ⌜ now r ≡ now (now (self .entry) .rules) ⌝ }
     {
-        self.rules
+        &self.rules[..]
     }
 
     // The number of contacts and inner variables.
@@ -168,7 +168,7 @@ pub impl<'a> Solver for ClauseSolver<'a> as ClauseSolves {
     ghost few = { in-order-few };
 
     fn contacts(&self) -> usize {
-        self.contacts as usize
+        usize::from(self.contacts)
     }
 
     fn ask(&mut self, literals: &[i8]) -> Result<Option<Setting>, SolverFault> {

@@ -41,7 +41,7 @@ impl Assignment {
     pub fn has_decided(self, variable: u8) -> bool
         ensures decided { λ r. ⌜ r ≡ decided self variable ⌝ }
     {
-        has_bit(self.closed | self.opened, variable as usize)
+        has_bit(self.closed, variable as usize) || has_bit(self.opened, variable as usize)
     }
 
     // One variable more decided; one that a mask does not have changes nothing.
