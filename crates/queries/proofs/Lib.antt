@@ -1,3 +1,3 @@
-mod Answers
+pub mod Answers
 mod Reasons
 mod Contacts
