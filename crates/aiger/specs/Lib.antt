@@ -1,0 +1,2 @@
+pub mod Aag
+pub mod Reader

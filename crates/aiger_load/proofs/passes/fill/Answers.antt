@@ -1,0 +1,20 @@
+use mathlib.Core.Path.{sym, ap, subst, _∙_}
+use native.Mathlib.Omega.{arith}
+use lib.ListN.{length}
+use Rattle.stores.specs.Stores.{Room}
+use Rattle.texts.specs.Lexemes.{ahead}
+use Rattle.aiger.specs.Aag.{heading, gate-lines}
+use Rattle.aiger_load.proofs.Bodies.{fits-room}
+use Rattle.aiger_load.proofs.passes.fill.Needs as need
+
+pub pour-requires : need.pour-requires
+pour-requires c κs =
+    let told = c .in-Ok .ensures tt in
+    let r = c .in-Ok .gates in
+    let ready = told .ready in
+    record {
+      some = omega (arith, ready .first);
+      few = omega (arith, ready .first, ready .inputs, ready .count);
+      room = subst (λ d. Room (gate-lines (r .count) d (r .behind) (ahead (r .words))) (length (c .args .store .now))) (sym (ready .first))
+        (fits-room (c .args .text .now) (r .inputs) (r .count) (r .output) (r .behind) (length (c .args .store .now)) (ahead (r .words)) (ap heading (sym (c .new .ensures .unread)) ∙ told .reads) (c .pre .fits));
+    }
