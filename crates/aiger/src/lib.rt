@@ -1,6 +1,7 @@
 // Reads gate texts in AIGER ASCII form: a heading `aag M I L O A`, lines of inputs, one output and A gates.
 // Gates are read only from a text whose heading was accepted: `Opening::heading` spends the opening.
 ghost use mathlib.Core.Path.{_≡_};
+
 mod body;
 mod head;
 

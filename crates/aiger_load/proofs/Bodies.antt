@@ -91,10 +91,13 @@ fits-gates : (r : Result Aag TextFault) (n : ℕ) → Fits r n → Room (gates r
 fits-gates (Ok c) n h = h
 fits-gates (Err e) n h = absurd h
 
--- there is room for the gates behind the heading of a text that was read
-pub fits-room : (text : List ℕ) (I A o b n : ℕ) (ts : List Lexeme) → heading (lexemes-from 0 text) ≡ Ok ((I, A, o, b), ts) → Fits (read-aag text) n → Room (gate-lines A (2 * I + 2) b ts) n
-fits-room text I A o b n ts h = go (length-due text)
+-- the gates of a text that was read stand behind its heading, and there is room for them
+pub gates-are : (text : List ℕ) (I A o b n : ℕ) (ts : List Lexeme) → heading (lexemes-from 0 text) ≡ Ok ((I, A, o, b), ts) → Fits (read-aag text) n → gates (read-aag text) ≡ gate-lines A (2 * I + 2) b ts
+gates-are text I A o b n ts h = go (length-due text)
   where
-    go : (r : Result (Unit {0}) TextFault) → Fits (and-then r (λ _. aag (lexemes-from 0 text))) n → Room (gate-lines A (2 * I + 2) b ts) n
-    go (Ok u) f = subst (λ x. Room x n) (gates-read I A o b (lexemes-from 0 text) ts h) (fits-gates (aag (lexemes-from 0 text)) n f)
+    go : (r : Result (Unit {0}) TextFault) → Fits (and-then r (λ _. aag (lexemes-from 0 text))) n → gates (and-then r (λ _. aag (lexemes-from 0 text))) ≡ gate-lines A (2 * I + 2) b ts
+    go (Ok u) f = gates-read I A o b (lexemes-from 0 text) ts h
     go (Err e) f = absurd f
+
+pub fits-room : (text : List ℕ) (I A o b n : ℕ) (ts : List Lexeme) → heading (lexemes-from 0 text) ≡ Ok ((I, A, o, b), ts) → Fits (read-aag text) n → Room (gate-lines A (2 * I + 2) b ts) n
+fits-room text I A o b n ts h f = subst (λ x. Room x n) (gates-are text I A o b n ts h f) (fits-gates (read-aag text) n f)

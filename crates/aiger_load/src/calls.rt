@@ -1,5 +1,6 @@
 // The loading of a text, layer by layer.
 ghost use mathlib.Core.Path.{_≡_};
+ghost use lib.Dec.{eqb};
 ghost use lib.ListN.{length};
 ghost use Rattle.aiger.specs.Aag.{read-aag};
 ghost use Rattle.aiger_load.specs.Loads.{measured, loaded, store-after};
@@ -20,13 +21,20 @@ fn measure(text: &[u8]) -> Result<Network, StoreFault>
     Ok(survey(text)?)
 }
 
+// A sheet has a contact for each input.
+fn suits(n: usize, inputs: usize) -> bool
+    ensures value { λ r. ⌜ r ≡ eqb n inputs ⌝ }
+{
+    n == inputs
+}
+
 // Puts the questions in their order, and lays the gates into the store.
 fn lay(text: &[u8], n: usize, store: &mut [Gate]) -> Result<Network, SheetFault>
     ensures answer { λ r. ⌜ r ≡ loaded n (length (now (store .entry))) (read-aag (now (text .entry))) ⌝ }
     ensures store { λ r. ⌜ now (store .exit) ≡ store-after r (read-aag (now (text .entry))) (now (store .entry)) ⌝ }
 {
     let network = measure(text)?;
-    if n != network.inputs {
+    if !suits(n, network.inputs) {
         return Err(SheetFault::WrongContacts);
     }
     room(network.count, store.len())?;

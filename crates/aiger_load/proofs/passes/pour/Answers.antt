@@ -15,11 +15,12 @@ loop-i-holds c =
     let n = c .count-count .result in
     let all : n - 0 ≡ n = omega arith in
     let count : s .count ≡ n - 0 = omega arith in
-    let size : length (c .args .store .now) ≡ length (c .args .store .now) - 0 = omega arith in
-    (c .pre .some,
-     omega (arith, c .pre .few, c .count-count .ensures .value),
-     subst (λ k. Room (gate-lines k (s .due) (s .behind) (ahead (s .words))) (length (c .args .store .now) - 0)) count (subst (Room (gate-lines (s .count) (s .due) (s .behind) (ahead (s .words)))) size (c .pre .room)),
-     ap (λ k. laid-from 0 (gate-lines k (s .due) (s .behind) (ahead (s .words))) (c .args .store .now)) all ∙ laid-all (gate-lines n (s .due) (s .behind) (ahead (s .words))) (c .args .store .now))
+    let size : length (c .args .store .now) ≡ length (c .args .store .now) - 0 = omega arith in (
+      c .pre .some,
+      omega (arith, c .pre .few, c .count-count .ensures .value),
+      subst (λ k. Room (gate-lines k (s .due) (s .behind) (ahead (s .words))) (length (c .args .store .now) - 0)) count (subst (Room (gate-lines (s .count) (s .due) (s .behind) (ahead (s .words)))) size (c .pre .room)),
+      ap (λ k. laid-from 0 (gate-lines k (s .due) (s .behind) (ahead (s .words))) (c .args .store .now)) all ∙ laid-all (gate-lines n (s .due) (s .behind) (ahead (s .words))) (c .args .store .now),
+    )
 
 -- the gates that were left begin with the one that was read
 more : (c : need.In-Ok) → gate-lines (c .count-count .result - c .loop-i .i) (c .loop-i .gates .due) (c .loop-i .gates .behind) (ahead (c .loop-i .gates .words)) ≡ before (c .in-Ok .gate) (gate-lines (c .count-count .result - (c .loop-i .i + 1)) (c .loop-i .gates .due + 2) (c .gate .last .self .behind) (ahead (c .gate .last .self .words)))
@@ -52,15 +53,16 @@ loop-i-again c =
     let told = c .in-Ok .ensures tt in
     let same = sym (told .due) in
     let room = left c in
-    let size : length s - i - 1 ≡ length (set s i (c .in-Ok .gate)) - (i + 1) = simp length-set (omega arith) in
-    (omega (arith, c .loop-i .inv .0, told .due),
-     omega (arith, c .loop-i .inv .1, told .due),
-     subst (λ d. Room (gate-lines n d (t .behind) (ahead (t .words))) (length (set s i (c .in-Ok .gate)) - (i + 1))) same
-       (subst (Room (gate-lines n (c .loop-i .gates .due + 2) (t .behind) (ahead (t .words)))) size (room .0)),
-     ap (λ d. laid-from (i + 1) (gate-lines n d (t .behind) (ahead (t .words))) (set s i (c .in-Ok .gate))) (sym same)
-     ∙ laid-one i (c .in-Ok .gate) (gate-lines n (c .loop-i .gates .due + 2) (t .behind) (ahead (t .words))) s (length s - i - 1) (omega (arith, room .1)) (room .0)
-     ∙ ap (λ r. laid-from i r s) (sym (more c))
-     ∙ c .loop-i .inv .3)
+    let size : length s - i - 1 ≡ length (set s i (c .in-Ok .gate)) - (i + 1) = simp length-set (omega arith) in (
+      omega (arith, c .loop-i .inv .0, told .due),
+      omega (arith, c .loop-i .inv .1, told .due),
+      subst (λ d. Room (gate-lines n d (t .behind) (ahead (t .words))) (length (set s i (c .in-Ok .gate)) - (i + 1))) same
+          (subst (Room (gate-lines n (c .loop-i .gates .due + 2) (t .behind) (ahead (t .words)))) size (room .0)),
+      ap (λ d. laid-from (i + 1) (gate-lines n d (t .behind) (ahead (t .words))) (set s i (c .in-Ok .gate))) (sym same)
+          ∙ laid-one i (c .in-Ok .gate) (gate-lines n (c .loop-i .gates .due + 2) (t .behind) (ahead (t .words))) s (length s - i - 1) (omega (arith, room .1)) (room .0)
+          ∙ ap (λ r. laid-from i r s) (sym (more c))
+          ∙ c .loop-i .inv .3,
+    )
 
 pub returns : need.returns
 returns c =
@@ -69,7 +71,7 @@ returns c =
     let end = none-left (c .count-count .result - c .loop-i .i) (s .due) (s .behind) (ahead (s .words)) (length (c .loop-i .store) - c .loop-i .i) (omega arith) (c .loop-i .inv .2) in
     record {
       store = sym (laid-none (c .loop-i .i) (c .loop-i .store))
-        ∙ ap (λ r. laid-from (c .loop-i .i) r (c .loop-i .store)) (sym end)
-        ∙ c .loop-i .inv .3
-        ∙ ap (λ n. laid (gate-lines n (a .due) (a .behind) (ahead (a .words))) (c .args .store .now)) (c .count-count .ensures .value);
+          ∙ ap (λ r. laid-from (c .loop-i .i) r (c .loop-i .store)) (sym end)
+          ∙ c .loop-i .inv .3
+          ∙ ap (λ n. laid (gate-lines n (a .due) (a .behind) (ahead (a .words))) (c .args .store .now)) (c .count-count .ensures .value);
     }

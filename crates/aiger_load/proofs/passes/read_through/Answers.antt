@@ -16,13 +16,14 @@ loop-again c =
     let t = c .gate .last .self in
     let n = c .count-end .result in
     let left = n - (c .loop .counter + 1) in
-    let gate = c .in-Continue-gate .field-0 in
-    (omega (arith, c .loop .inv .0, told .due),
-     omega (arith, c .loop .inv .1, told .due),
-     c .loop .inv .2
-     ∙ ap verdict (step (n - c .loop .counter) left (s .due) (s .behind) (ahead (s .words)) (omega arith) (t .behind) (ahead (t .words)) gate (told .reads))
-     ∙ same-verdict gate (gate-lines left (s .due + 2) (t .behind) (ahead (t .words)))
-     ∙ ap (λ d. verdict (gate-lines left d (t .behind) (ahead (t .words)))) (sym (told .due)))
+    let gate = c .in-Continue-gate .field-0 in (
+      omega (arith, c .loop .inv .0, told .due),
+      omega (arith, c .loop .inv .1, told .due),
+      c .loop .inv .2
+          ∙ ap verdict (step (n - c .loop .counter) left (s .due) (s .behind) (ahead (s .words)) (omega arith) (t .behind) (ahead (t .words)) gate (told .reads))
+          ∙ same-verdict gate (gate-lines left (s .due + 2) (t .behind) (ahead (t .words)))
+          ∙ ap (λ d. verdict (gate-lines left d (t .behind) (ahead (t .words)))) (sym (told .due)),
+    )
 
 pub returns-in-Break-gate : need.returns-in-Break-gate
 returns-in-Break-gate c =
