@@ -1,2 +1,3 @@
 pub mod Aag
 pub mod Reader
+pub mod Grammar

@@ -1,7 +1,7 @@
 -- Reading the gates of a gate text, line by line.
 use mathlib.Core.Path.{_≡_, refl, ap, subst, _∙_}
 use mathlib.Core.List.{List, [], _∷_}
-use Prim.Native.Nat.{ℕ, zero, suc, _+_, _*_}
+use Prim.Native.Nat.{ℕ, suc, _+_, _*_, _^_, _<_}
 use native.Mathlib.Omega.{arith}
 use lib.ListN.{length}
 use Rattle.std.specs.declared.result.Result.{Result}
@@ -10,9 +10,9 @@ use Rattle.faults.specs.declared.TextFault.{TextFault}
 use Rattle.stores.specs.Stores.{verdict, before, Room}
 use Rattle.texts.specs.Lexemes.{Lexeme, lexemes-from}
 use Rattle.texts.specs.Due.{length-due, and-then, ended}
-use Rattle.texts.proofs.Dues.{first-then}
 use Rattle.aiger.specs.declared.Gate.{Gate}
 use Rattle.aiger.specs.Aag.{Heading, heading, gate-line, gate-lines, Aag, aag, read-aag}
+use Rattle.aiger.proofs.Grammars.{gates-are as spelled}
 use Rattle.aiger_load.specs.Loads.{outlined, gates, Fits}
 
 abbrev lines-from : ℕ → ℕ → Result ((Gate × ℕ) × List Lexeme) TextFault → Result (List Gate) TextFault
@@ -44,27 +44,6 @@ no-gates (Err x) k h = absurd h
 pub none-left : (m due b : ℕ) (ts : List Lexeme) (k : ℕ) → m ≡ 0 → Room (gate-lines m due b ts) k → gate-lines m due b ts ≡ Ok []
 none-left m due b ts k h room = ap (λ i. gate-lines i due b ts) h ∙ no-gates (ended b ts) k (subst (λ i. Room (gate-lines i due b ts) k) h room)
 
--- as many gates as lines
-abbrev Long : ℕ → Result (List Gate) TextFault → Type 0
-Long n (Ok gs) = length gs ≡ n
-Long n (Err e) = Unit {0}
-
-long-none : (r : Result (Unit {0}) TextFault) → Long 0 (and-then r (λ _. Ok []))
-long-none (Ok x) = refl
-long-none (Err x) = tt
-
-long-one : (n : ℕ) (g : Gate) (r : Result (List Gate) TextFault) → Long n r → Long (suc n) (and-then r (λ gs. Ok (g ∷ gs)))
-long-one n g (Ok gs) h = ap suc h
-long-one n g (Err e) h = tt
-
-long-more : (n due : ℕ) → ((b : ℕ) (ts : List Lexeme) → Long n (gate-lines n (due + 2) b ts)) → (r : Result ((Gate × ℕ) × List Lexeme) TextFault) → Long (suc n) (lines-from n due r)
-long-more n due h (Ok a) = long-one n (a .0 .0) (gate-lines n (due + 2) (a .0 .1) (a .1)) (h (a .0 .1) (a .1))
-long-more n due h (Err e) = tt
-
-long : (n due b : ℕ) (ts : List Lexeme) → Long n (gate-lines n due b ts)
-long zero due b ts = long-none (ended b ts)
-long (suc n) due b ts = long-more n due (long n (due + 2)) (gate-line due ts)
-
 -- a text whose gates can be read has as many as its heading says
 abbrev said-by : ℕ → ℕ → Result (List Gate) TextFault → Result Aag TextFault
 said-by I o r = and-then r (λ gs. Ok (record { inputs = I; output = o; gates = gs }))
@@ -72,12 +51,13 @@ said-by I o r = and-then r (λ gs. Ok (record { inputs = I; output = o; gates = 
 abbrev said : Result (Heading × List Lexeme) TextFault → Result Aag TextFault
 said r = and-then r (λ h. said-by (h .0 .0) (h .0 .2) (gate-lines (h .0 .1) (2 * h .0 .0 + 2) (h .0 .3) (h .1)))
 
-outline-of : (I A o : ℕ) (r : Result (List Gate) TextFault) → Long A r → verdict r ≡ Ok tt → outlined (said-by I o r) ≡ Ok (record { inputs = I; count = A; output = o })
-outline-of I A o (Ok gs) h e = ap (λ n. Ok (record { inputs = I; count = n; output = o })) h
+outline-of : (I A o : ℕ) (r : Result (List Gate) TextFault) → ((gs : List Gate) → r ≡ Ok gs → length gs ≡ A) → verdict r ≡ Ok tt → outlined (said-by I o r) ≡ Ok (record { inputs = I; count = A; output = o })
+outline-of I A o (Ok gs) h e = ap (λ n. Ok (record { inputs = I; count = n; output = o })) (h gs refl)
 outline-of I A o (Err f) h e = absurd (let z : _≡_ {A = ℕ} 0 1 = cc in omega arith)
 
-pub outline-read : (I A o b : ℕ) (ts ts′ : List Lexeme) → heading ts ≡ Ok ((I, A, o, b), ts′) → verdict (gate-lines A (2 * I + 2) b ts′) ≡ Ok tt → outlined (aag ts) ≡ Ok (record { inputs = I; count = A; output = o })
-outline-read I A o b ts ts′ h e = ap (λ r. outlined (said r)) h ∙ outline-of I A o (gate-lines A (2 * I + 2) b ts′) (long A (2 * I + 2) b ts′) e
+pub outline-read : (I A o b : ℕ) (ts ts′ : List Lexeme) → 2 * I + 2 + 2 * A < 2 ^ 64 → heading ts ≡ Ok ((I, A, o, b), ts′) → verdict (gate-lines A (2 * I + 2) b ts′) ≡ Ok tt → outlined (aag ts) ≡ Ok (record { inputs = I; count = A; output = o })
+outline-read I A o b ts ts′ small h e =
+    ap (λ r. outlined (said r)) h ∙ outline-of I A o (gate-lines A (2 * I + 2) b ts′) (λ gs r. spelled A (2 * I + 2) b ts′ gs (omega arith) small r .0) e
 
 -- the gates of a text, from its heading on
 pub gates-read : (I A o b : ℕ) (ts ts′ : List Lexeme) → heading ts ≡ Ok ((I, A, o, b), ts′) → gates (aag ts) ≡ gate-lines A (2 * I + 2) b ts′

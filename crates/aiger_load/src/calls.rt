@@ -3,6 +3,7 @@ ghost use mathlib.Core.Path.{_≡_};
 ghost use lib.Dec.{eqb};
 ghost use lib.ListN.{length};
 ghost use Rattle.aiger.specs.Aag.{read-aag};
+ghost use Rattle.aiger.specs.Grammar.{Reads-just};
 ghost use Rattle.aiger_load.specs.Loads.{measured, loaded, store-after};
 use super::Network;
 use crate::passes::fill;
@@ -46,6 +47,7 @@ fn lay(text: &[u8], n: usize, store: &mut [Gate]) -> Result<Network, SheetFault>
 pub fn load(text: &[u8], n: usize, store: &mut [Gate]) -> Result<Network, SheetFault>
     ensures answer { λ r. ⌜ r ≡ loaded n (length (now (store .entry))) (read-aag (now (text .entry))) ⌝ }
     ensures store { λ r. ⌜ now (store .exit) ≡ store-after r (read-aag (now (text .entry))) (now (store .entry)) ⌝ }
+    ensures reads { λ _. ⌜ Reads-just (now (text .entry)) ⌝ }
 {
     lay(text, n, store)
 }
