@@ -5,7 +5,6 @@ ghost use Prim.Native.Nat.{ℕ, _+_, _^_, _≤_, _<_};
 ghost use lib.ListN.{length};
 ghost use Rattle.std.specs.declared.result.Result.the-variants.{Ok};
 ghost use Rattle.dimacs.specs.Cnf.{read-cnf};
-ghost use Rattle.literals.specs.Bits.{bit};
 ghost use Rattle.literals.specs.Literals.{listed};
 ghost use Rattle.dimacs_write.specs.Laws.{as-sets, Reads-back, Written-again};
 ghost use Rattle.dimacs_write.specs.Puts.{over, variable-text, written-over};
@@ -16,13 +15,7 @@ use crate::bytes::put_number;
 use crate::bytes::put_spaced;
 use faults::SheetFault;
 use literals::LiteralSet;
-
-fn has_bit(mask: u64, k: usize) -> bool
-    requires few { ⌜ k < 64 ⌝ }
-    ensures value { λ r. ⌜ r ≡ bit mask k ⌝ }
-{
-    (mask >> (k as u32)) % 2 == 1
-}
+use literals::has_bit;
 
 // Puts the literals of variable k + 1 that the set has.
 fn put_variable(out: &mut [u8], at: usize, set: &LiteralSet, k: usize) -> usize
