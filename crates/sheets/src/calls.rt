@@ -1,12 +1,12 @@
 // Opening a sheet, RULE, ASSUME and RELEASE.
 ghost use mathlib.Core.Path.{_≡_};
-ghost use Prim.Native.Nat.{_+_, _<_};
+ghost use mathlib.Core.List.{[]};
+ghost use Prim.Native.Nat.{_<_};
 ghost use lib.ListN.{length};
-ghost use Rattle.std.specs.declared.option.Option.the-variants.{None};
 ghost use Rattle.tables.specs.Tables.{items};
 ghost use Rattle.solver.specs.Meaning.{add-fault, with-rule};
 ghost use Rattle.solver.specs.Over.{meaning-of};
-ghost use Rattle.sheets.specs.Sheets.{page, In-Order, opened, ruled, rule-answer, after-rule, assume-fault, next-ticket, assume-answer, with-held, after-assume, numbered-at, held-at, release-answer, without-held, after-release};
+ghost use Rattle.sheets.specs.Sheets.{page, In-Order, New, opened, ruled, rule-answer, after-rule, assume-fault, next-ticket, assume-answer, with-held, after-assume, numbered-at, held-at, release-answer, without-held, after-release};
 use super::Held;
 use super::Sheet;
 use super::Ticket;
@@ -41,12 +41,29 @@ fn place_of(held: &[Held], number: u16) -> Option<usize>
     None
 }
 
+impl Ticket {
+    // The label of the sheet that issued it.
+    pub fn label(&self) -> u16
+        ensures label { λ r. ⌜ r ≡ now (self .entry) .label ⌝ }
+    {
+        self.label
+    }
+
+    // Its issue number.
+    pub fn number(&self) -> u16
+        ensures number { λ r. ⌜ r ≡ now (self .entry) .number ⌝ }
+    {
+        self.number
+    }
+}
+
 impl<S: Solver> Sheet<S> {
     // A sheet over a solver, whose bars are cleared.
     pub fn open(mut solver: S, label: u16) -> Self
         requires ordered { ⌜ S·Solver .ordered solver ⌝ }
         ensures opened { λ r. ⌜ page S·Solver r ≡ opened (meaning-of S·Solver solver) label ⌝ }
         ensures in_order { λ r. ⌜ In-Order S·Solver r ⌝ }
+        ensures new { λ r. ⌜ (S·Solver .added solver ≡ [] → New S·Solver r) ⌝ }
     {
         solver.clear();
         let held = Table::new(Held {

@@ -74,7 +74,8 @@ impl<S: Solver> Sheet<S> {
         if out.len() < self.solver.contacts() {
             return Err(SheetFault::ShortBuffer);
         }
-        match self.earliest_held() {
+        let found = self.earliest_held();
+        match found {
             None => Err(SheetFault::NoneAllowed),
             Some(found) => {
                 write_front(out, found.as_slice());
@@ -93,7 +94,8 @@ impl<S: Solver> Sheet<S> {
         if out.len() < self.held.len() {
             return Err(SheetFault::ShortBuffer);
         }
-        match self.reason_held() {
+        let choice = self.reason_held();
+        match choice {
             None => Err(SheetFault::SomeAllowed),
             Some(choice) => {
                 write_front(out, choice.as_slice());
