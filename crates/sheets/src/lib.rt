@@ -20,6 +20,7 @@ pub struct Ticket {
 }
 
 // A sheet owns one solver of any kind. Its label tells its tickets from those of other sheets, and `count` is how many it has issued.
+#[derive(Drop)]
 pub struct Sheet<S: Solver> {
     pub solver: S,
     label: u16,
