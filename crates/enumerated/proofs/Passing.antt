@@ -2,24 +2,19 @@
 use mathlib.Core.Path.{_≡_, refl, sym, ap, _∙_}
 use mathlib.Core.Bool.{Bool, true, false, not, cond, Bool·beq, _&&_, _||_}
 use mathlib.Core.List.{List, [], _∷_}
-use Prim.Native.Nat.{ℕ, _+_, _<_, _≤_}
+use Prim.Native.Nat.{ℕ}
 use lib.IntN.{ℤ}
-use lib.ListN.{length, getD, drop}
-use Rattle.std.proofs.shelf.Lists.{at-drop-more, at-drop-all}
 use Rattle.std.specs.declared.option.Option.{Option}
 use Rattle.std.specs.declared.option.Option.the-variants.{Some, None}
 use Rattle.std.proofs.shelf.Tests.{and-parts, and-from, or-left, or-right, false≢true}
 use Rattle.settings.specs.declared.Setting.{Setting}
 use Rattle.settings.specs.Settings.{fits}
-use Rattle.settings.specs.Readings.{reading}
+use Rattle.settings.specs.Readings.{reading, first-passing}
 use Rattle.additions.specs.declared.Additions.{Additions}
 use Rattle.additions.specs.Additions.{meaning-with, passes}
 use Rattle.solver.specs.Meaning.{Meaning, Answers, stands-with}
 use Rattle.laws.proofs.Least.{none-from}
-use Rattle.enumerated.specs.Enumerated.{same-setting, listed, passes-with, first-passing}
-
-abbrev pub no-setting : Setting
-no-setting = record { closed = 0 }
+use Rattle.enumerated.specs.Enumerated.{same-setting, listed, passes-with}
 
 same-refl : (x : List Bool) → same-setting x x ≡ true
 same-refl [] = refl
@@ -67,11 +62,3 @@ pub first-answers : (n : ℕ) (a : Additions) (ss : List Setting) (ls : List ℤ
 first-answers n a ss ls None e =
     none-from n (stands-with (meaning-with n (listed n ss) a) ls) (λ y l. and-assoc (listed n ss y) (passes a y) (fits ls y) ∙ none-listed n (passes-with a ls) ss (sym e) y)
 first-answers n a ss ls (Some s) e = and-assoc (listed n ss (reading n s)) (passes a (reading n s)) (fits ls (reading n s)) ∙ found-listed n (passes-with a ls) ss s (sym e)
-
--- one step of the scan
-pub passing-more : (n : ℕ) (p : List Bool → Bool) (ss : List Setting) (i : ℕ) (b : Bool) → i < length ss → p (reading n (getD ss i no-setting)) ≡ b → first-passing n p (drop i ss) ≡ cond b (Some (getD ss i no-setting)) (first-passing n p (drop (i + 1) ss))
-passing-more n p ss i b lt h =
-    at-drop-more (first-passing n p) ss i no-setting lt ∙ ap (λ c. cond c (Some (getD ss i no-setting)) (first-passing n p (drop (i + 1) ss))) h
-
-pub passing-all : (n : ℕ) (p : List Bool → Bool) (ss : List Setting) (i : ℕ) → length ss ≤ i → first-passing n p (drop i ss) ≡ None
-passing-all n p ss i le = at-drop-all (first-passing n p) ss i le

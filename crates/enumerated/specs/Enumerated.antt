@@ -1,6 +1,6 @@
 -- A solver over a plain list of allowed settings.
 use mathlib.Core.Path.{_≡_}
-use mathlib.Core.Bool.{Bool, true, false, cond, Bool·beq, _&&_, _||_}
+use mathlib.Core.Bool.{Bool, true, false, Bool·beq, _&&_, _||_}
 use mathlib.Core.List.{List, [], _∷_}
 use Prim.Native.Nat.{ℕ}
 use lib.IntN.{ℤ}
@@ -8,8 +8,6 @@ use Rattle.std.specs.declared.result.Result.{Result}
 use Rattle.std.specs.declared.result.Result.the-variants.{Ok, Err}
 use Rattle.faults.specs.declared.SheetFault.{SheetFault}
 use Rattle.faults.specs.declared.SheetFault.the-variants.{WrongContacts}
-use Rattle.std.specs.declared.option.Option.{Option}
-use Rattle.std.specs.declared.option.Option.the-variants.{Some, None}
 use Rattle.settings.specs.declared.Setting.{Setting}
 use Rattle.settings.specs.Settings.{fits}
 use Rattle.settings.specs.Readings.{reading}
@@ -33,11 +31,6 @@ listed n (s ∷ ss) x = same-setting (reading n s) x || listed n ss x
 -- a setting passes what was added, and agrees with all the literals
 abbrev pub passes-with : Additions → List ℤ → List Bool → Bool
 passes-with a ls x = passes a x && fits ls x
-
--- the first setting of a list that passes
-abbrev pub first-passing : ℕ → (List Bool → Bool) → List Setting → Option Setting
-first-passing n p [] = None
-first-passing n p (s ∷ ss) = cond (p (reading n s)) (Some s) (first-passing n p ss)
 
 -- the number of contacts that was asked for; or it is out of range
 abbrev pub Counted : ℕ → Result ContactCount SheetFault → Type 0

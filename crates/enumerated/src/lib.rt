@@ -1,10 +1,10 @@
 // The smallest solver that meets the contract of all: it looks through a plain list of allowed settings.
 ghost use mathlib.Core.Path.{_≡_};
 ghost use denote.Ref.{now as at};
-ghost use Rattle.settings.specs.Readings.{reading};
+ghost use Rattle.settings.specs.Readings.{reading, first-passing};
 ghost use Rattle.additions.specs.Additions.{rules-of, bars-of, meaning-with};
 ghost use Rattle.solver.specs.Meaning.{Answers};
-ghost use Rattle.enumerated.specs.Enumerated.{listed, passes-with, first-passing, Counted, plain-meaning};
+ghost use Rattle.enumerated.specs.Enumerated.{listed, passes-with, Counted, plain-meaning};
 ghost use Rattle.enumerated.specs.Range.{In-Range};
 use additions::Additions;
 use faults::SheetFault;

@@ -1,7 +1,8 @@
 use mathlib.Core.Path.{sym, _∙_}
 use mathlib.Core.Bool.{true, false}
 use Rattle.enumerated.specs.Enumerated.{passes-with}
-use Rattle.enumerated.proofs.Passing.{passing-more, passing-all, first-answers}
+use Rattle.settings.proofs.Passing.{passing-more, passing-all}
+use Rattle.enumerated.proofs.Passing.{first-answers}
 use Rattle.enumerated.proofs.ListSolver.find.Needs as need
 
 pub returns-then-passes : need.returns-then-passes

@@ -1,6 +1,7 @@
 use mathlib.Core.Path.{_≡_}
 use lib.ListN.{drop}
-use Rattle.enumerated.specs.Enumerated.{passes-with, first-passing}
+use Rattle.settings.specs.Readings.{first-passing}
+use Rattle.enumerated.specs.Enumerated.{passes-with}
 use Rattle.enumerated.proofs.ListSolver.find.Given as given
 
 abbrev pub Inv-loop-setting : given.InvT-loop-setting
