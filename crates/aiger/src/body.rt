@@ -1,6 +1,6 @@
 // The gates of a gate text.
 ghost use mathlib.Core.Path.{_≡_};
-ghost use Prim.Native.Nat.{_+_, _≤_};
+ghost use Prim.Native.Nat.{_+_, min};
 ghost use Rattle.aiger.specs.Aag.{gate-line};
 ghost use Rattle.aiger.specs.Reader.{gave};
 ghost use Rattle.texts.specs.Due.{ended};
@@ -12,19 +12,18 @@ use faults::TextFault;
 impl<'a> Gates<'a> {
     // The next gate.
     pub fn gate(&mut self) -> Result<Gate, TextFault>
-        requires some { ⌜ 1 ≤ now self .due ⌝ }
-        requires few { ⌜ now self .due ≤ 4160 ⌝ }
         ensures reads { λ r. ⌜ gate-line (now (self .entry) .due) (ahead (now (self .entry) .words)) ≡ gave r (now (self .exit)) ⌝ }
-        ensures due { λ _. ⌜ now (self .exit) .due ≡ now (self .entry) .due + 2 ⌝ }
+        ensures due { λ _. ⌜ now (self .exit) .due ≡ min (now (self .entry) .due + 2) 65535 ⌝ }
         ensures inputs { λ _. ⌜ now (self .exit) .inputs ≡ now (self .entry) .inputs ⌝ }
         ensures count { λ _. ⌜ now (self .exit) .count ≡ now (self .entry) .count ⌝ }
         ensures output { λ _. ⌜ now (self .exit) .output ≡ now (self .entry) .output ⌝ }
     {
         let due = self.due;
-        self.due = due + 2;
+        self.due = due.saturating_add(2);
         self.words.number(due, due)?;
-        let left = self.words.number(0, due - 1)?;
-        let right = self.words.number(0, due - 1)?;
+        let most = due.saturating_sub(1);
+        let left = self.words.number(0, most)?;
+        let right = self.words.number(0, most)?;
         self.behind = self.words.line_end()?;
         Ok(Gate { left, right })
     }

@@ -27,7 +27,7 @@ pub struct Gates<'a> {
     inputs: u16,
     count: u16,
     output: u16,
-    // the literal that the next gate defines
+    // the literal that the next gate defines; it stops at the greatest number of its type
     due: u16,
     // the place behind the last line that was read
     behind: usize,

@@ -15,7 +15,6 @@ use texts::check_length;
 
 // Reads all the gates and the end.
 fn read_through(mut gates: Gates) -> Result<(), TextFault>
-    requires some { ⌜ 1 ≤ gates .due ⌝ }
     requires few { ⌜ gates .due + 2 * gates .count ≤ 4162 ⌝ }
     ensures reads { λ r. ⌜ r ≡ verdict (gate-lines (gates .entry .count) (gates .entry .due) (gates .entry .behind) (ahead (gates .entry .words))) ⌝ }
 {
@@ -44,7 +43,6 @@ pub fn survey(text: &[u8]) -> Result<Network, TextFault>
 
 // Puts the gates into the front of the store.
 fn pour(mut gates: Gates, store: &mut [Gate])
-    requires some { ⌜ 1 ≤ gates .due ⌝ }
     requires few { ⌜ gates .due + 2 * gates .count ≤ 4162 ⌝ }
     requires room { ⌜ Room (gate-lines (gates .count) (gates .due) (gates .behind) (ahead (gates .words))) (length (now store)) ⌝ }
     ensures store { λ _. ⌜ now (store .exit) ≡ laid (gate-lines (gates .entry .count) (gates .entry .due) (gates .entry .behind) (ahead (gates .entry .words))) (now (store .entry)) ⌝ }

@@ -2,7 +2,7 @@
 use mathlib.Core.Path.{_≡_, refl, ap, _∙_}
 use mathlib.Core.Bool.{false, cond}
 use mathlib.Core.List.{List, [], _∷_}
-use Prim.Native.Nat.{ℕ, _≤_}
+use Prim.Native.Nat.{ℕ}
 use native.Mathlib.Omega.{arith}
 use mir.Syntax.{w8}
 use mir.Val.{SFits, ofZ}
@@ -17,7 +17,7 @@ use Rattle.literals.specs.Literals.{with-literal}
 use Rattle.texts.specs.Lexemes.{Lexeme}
 use Rattle.texts.specs.Due.{leaving, and-then, one}
 use Rattle.texts.proofs.Dues.{judged}
-use Rattle.dimacs.specs.Literals.{Up-to, literal}
+use Rattle.dimacs.specs.Literals.{Up-to, greatest, literal}
 use Rattle.dimacs.specs.Cnf.{is-zero, literals}
 use Rattle.dimacs.specs.Reader.{set-line-from}
 
@@ -49,10 +49,10 @@ module _ (V : ℕ) where
   line-fault s [] f e = cc
   line-fault s (t ∷ ts) f e = ap (gathered s) (ap (onward V ts) (one-err ts f (literal V t) e))
 
--- a literal of at most 64 variables fits 8 bits
-pub up-to-fits : (V : ℕ) (l : ℤ) → V ≤ 64 → Up-to V l → SFits w8 l
-up-to-fits V (pos k) h b = record { sfits = omega arith }
-up-to-fits V (negsuc k) h b = record { sfits = omega arith }
+-- a literal fits 8 bits
+pub up-to-fits : (V : ℕ) (l : ℤ) → Up-to (greatest V) l → SFits w8 l
+up-to-fits V (pos k) b = record { sfits = omega arith }
+up-to-fits V (negsuc k) b = record { sfits = omega arith }
 
 pub not-zero : (l : ℤ) → (ofZ w8 l ≡ 0 → ⊥) → is-zero l ≡ false
 not-zero (pos k) h = ne-eqb k 0 h

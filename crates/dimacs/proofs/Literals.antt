@@ -18,7 +18,7 @@ use Rattle.literals.specs.Literals.{names}
 use Rattle.texts.specs.Lexemes.{Lexeme, word, line-end, end}
 use Rattle.texts.specs.Due.{and-then, limited}
 use Rattle.texts.proofs.Dues.{from-ok, first-then, limited-is, one-way, number-ok}
-use Rattle.dimacs.specs.Literals.{Up-to, minus, negated, literal}
+use Rattle.dimacs.specs.Literals.{Up-to, greatest, minus, negated, literal}
 use Rattle.dimacs.specs.Cnf.{is-zero}
 
 -- a literal names one of V variables
@@ -33,28 +33,28 @@ minus-front (b ∷ w) h = ap (λ x. x ∷ w) h
 abbrev Spells : ℕ → List ℕ → ℤ → Type 0
 Spells V w l = (w ≡ signed l) × Up-to V l
 
-negative : (V : ℕ) (w : List ℕ) (p n : ℕ) (l : ℤ) → V < 2 ^ 64 → getD w 0 0 ≡ 45 → limited 0 V (drop 1 w) p ≡ Ok n → minus p n ≡ Ok l → Spells V w l
+negative : (V : ℕ) (w : List ℕ) (p n : ℕ) (l : ℤ) → V < 2 ^ 64 → getD w 0 0 ≡ 45 → limited 0 (greatest V) (drop 1 w) p ≡ Ok n → minus p n ≡ Ok l → Spells V w l
 negative V w p zero l v h e m = absurd (let z : _≡_ {A = ℕ} 0 1 = cc in omega arith)
 negative V w p (suc k) l v h e m =
-    let q = limited-is 0 V (drop 1 w) p (suc k) e in
+    let q = limited-is 0 (greatest V) (drop 1 w) p (suc k) e in
     let same = q .1 in
     let is : negsuc k ≡ l = ap (from-ok l) m in
     let lt : k < V = omega (arith, q .3) in
     (minus-front w h ∙ ap (λ ds. 45 ∷ ds) (sym (one-way (drop 1 w) (q .0) (omega (arith, q .3))) ∙ ap decimal same) ∙ ap signed is, subst (Up-to V) is lt)
 
-positive : (V : ℕ) (w : List ℕ) (p n : ℕ) (l : ℤ) → V < 2 ^ 64 → limited 0 V w p ≡ Ok n → _≡_ {A = Result ℤ TextFault} (Ok (pos n)) (Ok l) → Spells V w l
+positive : (V : ℕ) (w : List ℕ) (p n : ℕ) (l : ℤ) → V < 2 ^ 64 → limited 0 (greatest V) w p ≡ Ok n → _≡_ {A = Result ℤ TextFault} (Ok (pos n)) (Ok l) → Spells V w l
 positive V w p n l v e m =
-    let q = limited-is 0 V w p n e in
+    let q = limited-is 0 (greatest V) w p n e in
     let same = q .1 in
     let is : pos n ≡ l = ap (from-ok l) m in
-    (sym (one-way w (q .0) (omega (arith, q .3))) ∙ ap decimal same ∙ ap signed is, subst (Up-to V) is (q .3))
+    (sym (one-way w (q .0) (omega (arith, q .3))) ∙ ap decimal same ∙ ap signed is, subst (Up-to V) is (let le = q .3 in omega arith))
 
-word-is : (V : ℕ) (w : List ℕ) (p : ℕ) (l : ℤ) (b : Bool) → V < 2 ^ 64 → eqb (getD w 0 0) 45 ≡ b → cond b (negated V (drop 1 w) p) (and-then (limited 0 V w p) (λ n. Ok (pos n))) ≡ Ok l → Spells V w l
+word-is : (V : ℕ) (w : List ℕ) (p : ℕ) (l : ℤ) (b : Bool) → V < 2 ^ 64 → eqb (getD w 0 0) 45 ≡ b → cond b (negated V (drop 1 w) p) (and-then (limited 0 (greatest V) w p) (λ n. Ok (pos n))) ≡ Ok l → Spells V w l
 word-is V w p l true v h e =
-    let q = first-then (limited 0 V (drop 1 w) p) (minus p) l e in
+    let q = first-then (limited 0 (greatest V) (drop 1 w) p) (minus p) l e in
     negative V w p (q .0) l v (eqb-true _ 45 h) (q .1) (q .2)
 word-is V w p l false v h e =
-    let q = first-then (limited 0 V w p) (λ n. Ok (pos n)) l e in
+    let q = first-then (limited 0 (greatest V) w p) (λ n. Ok (pos n)) l e in
     positive V w p (q .0) l v (q .1) (q .2)
 
 -- a lexeme that gave a literal is the word that writes it
@@ -79,13 +79,13 @@ literal-ok V (pos (suc k)) p v h =
     let lt = ltb-true k V h in
     let big = first-decimal (suc k) (omega arith) (omega arith) in
     cond-false (eqb (getD (decimal (suc k)) 0 0) 45) _ _ (ne-eqb _ 45 (λ e. omega arith))
-    ∙ ap (λ r. and-then r (λ n. Ok (pos n))) (number-ok 0 V (suc k) p (omega arith) (omega arith) (omega arith))
+    ∙ ap (λ r. and-then r (λ n. Ok (pos n))) (number-ok 0 (greatest V) (suc k) p (omega arith) (omega arith) (omega arith))
 literal-ok V (negsuc k) p v h =
     let lt = ltb-true k V h in
-    ap (λ r. and-then r (minus p)) (number-ok 0 V (suc k) p (omega arith) (omega arith) (omega arith))
+    ap (λ r. and-then r (minus p)) (number-ok 0 (greatest V) (suc k) p (omega arith) (omega arith) (omega arith))
 
 pub zero-ok : (V p : ℕ) → literal V (word (codes "0") p) ≡ Ok (pos 0)
-zero-ok V p = ap (λ w. literal V (word w p)) (sym (decimal-digit 0 (omega arith))) ∙ cond-false (eqb (getD (decimal 0) 0 0) 45) _ _ (ap (λ w. eqb (getD w 0 0) 45) (decimal-digit 0 (omega arith))) ∙ ap (λ r. and-then r (λ n. Ok (pos n))) (number-ok 0 V 0 p (omega arith) (omega arith) (omega arith))
+zero-ok V p = ap (λ w. literal V (word w p)) (sym (decimal-digit 0 (omega arith))) ∙ cond-false (eqb (getD (decimal 0) 0 0) 45) _ _ (ap (λ w. eqb (getD w 0 0) 45) (decimal-digit 0 (omega arith))) ∙ ap (λ r. and-then r (λ n. Ok (pos n))) (number-ok 0 (greatest V) 0 p (omega arith) (omega arith) (omega arith))
 
 pub named-some : (V : ℕ) (l : ℤ) → Named V l → is-zero l ≡ false
 named-some V (pos zero) h = absurd (both-ways false refl h)

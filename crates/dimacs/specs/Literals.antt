@@ -1,7 +1,7 @@
 -- The literals of a clause text: k and −k for a variable k from 1 to V, and the closing 0.
 use mathlib.Core.Bool.{cond}
 use mathlib.Core.List.{List}
-use Prim.Native.Nat.{ℕ, zero, suc, _≤_, _<_}
+use Prim.Native.Nat.{ℕ, zero, suc, min, _≤_, _<_}
 use lib.Dec.{eqb}
 use lib.IntN.{ℤ, pos, negsuc}
 use lib.ListN.{getD, drop}
@@ -22,13 +22,17 @@ abbrev pub minus : ℕ → ℕ → Result ℤ TextFault
 minus p zero = Err (Shape p)
 minus p (suc k) = Ok (negsuc k)
 
+-- the greatest variable of a literal, which is a signed 8-bit number
+abbrev pub greatest : ℕ → ℕ
+greatest V = min V 127
+
 -- the word behind a minus
 abbrev pub negated : ℕ → List ℕ → ℕ → Result ℤ TextFault
-negated V w p = and-then (limited 0 V w p) (minus p)
+negated V w p = and-then (limited 0 (greatest V) w p) (minus p)
 
 -- a word that is a literal or the closing 0; 45 is the minus
 abbrev pub signed : ℕ → List ℕ → ℕ → Result ℤ TextFault
-signed V w p = cond (eqb (getD w 0 0) 45) (negated V (drop 1 w) p) (and-then (limited 0 V w p) (λ n. Ok (pos n)))
+signed V w p = cond (eqb (getD w 0 0) 45) (negated V (drop 1 w) p) (and-then (limited 0 (greatest V) w p) (λ n. Ok (pos n)))
 
 abbrev pub literal : ℕ → Lexeme → Result ℤ TextFault
 literal V (word w p) = signed V w p

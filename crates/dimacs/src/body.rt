@@ -1,6 +1,5 @@
 // The rules of a clause text.
 ghost use mathlib.Core.Path.{_≡_};
-ghost use Prim.Native.Nat.{_≤_};
 ghost use Rattle.dimacs.specs.Reader.{set-line, rule-set, gave};
 ghost use Rattle.texts.specs.Due.{leaving, ended};
 ghost use Rattle.texts.specs.Lexemes.{ahead};
@@ -12,7 +11,6 @@ use texts::Words;
 
 // The literals up to the closing 0.
 fn set_line(words: &mut Words, vars: u16) -> Result<LiteralSet, TextFault>
-    requires few { ⌜ vars ≤ 64 ⌝ }
     ensures reads { λ r. ⌜ set-line vars (ahead (now (words .entry))) ≡ leaving r (ahead (now (words .exit))) ⌝ }
 {
     let mut rule = LiteralSet::empty();
@@ -28,7 +26,6 @@ fn set_line(words: &mut Words, vars: u16) -> Result<LiteralSet, TextFault>
 impl<'a> Rules<'a> {
     // The next rule, as the set of its literals.
     pub fn rule(&mut self) -> Result<LiteralSet, TextFault>
-        requires few { ⌜ now self .vars ≤ 64 ⌝ }
         ensures reads { λ r. ⌜ rule-set (now (self .entry) .vars) (ahead (now (self .entry) .words)) ≡ gave r (now (self .exit)) ⌝ }
         ensures vars { λ r. ⌜ now (self .exit) .vars ≡ now (self .entry) .vars ⌝ }
         ensures count { λ r. ⌜ now (self .exit) .count ≡ now (self .entry) .count ⌝ }

@@ -1,6 +1,5 @@
 // The two passes over a text: one that only reads, and one that fills the store.
 ghost use mathlib.Core.Path.{_≡_};
-ghost use Prim.Native.Nat.{_≤_};
 ghost use lib.ListN.{length};
 ghost use Rattle.dimacs.specs.Cnf.{read-cnf};
 ghost use Rattle.dimacs_load.specs.Loads.{sized, sets, set-body, Fits};
@@ -15,7 +14,6 @@ use texts::check_length;
 
 // Reads all the rules and the end.
 fn read_through(mut rules: Rules) -> Result<(), TextFault>
-    requires few { ⌜ rules .vars ≤ 64 ⌝ }
     ensures reads { λ r. ⌜ r ≡ verdict (set-body (rules .entry .vars) (rules .entry .count) (rules .entry .behind) (ahead (rules .entry .words))) ⌝ }
 {
     for _ in 0..rules.count() {
@@ -38,7 +36,6 @@ pub fn survey(text: &[u8]) -> Result<Size, TextFault>
 
 // Puts the rules into the front of the store.
 fn pour(mut rules: Rules, store: &mut [LiteralSet])
-    requires few { ⌜ rules .vars ≤ 64 ⌝ }
     requires room { ⌜ Room (set-body (rules .vars) (rules .count) (rules .behind) (ahead (rules .words))) (length (now store)) ⌝ }
     ensures store { λ _. ⌜ now (store .exit) ≡ laid (set-body (rules .entry .vars) (rules .entry .count) (rules .entry .behind) (ahead (rules .entry .words))) (now (store .entry)) ⌝ }
 {

@@ -13,7 +13,6 @@ pour-requires c κs =
     let r = c .in-Ok .gates in
     let ready = told .ready in
     record {
-      some = omega (arith, ready .first);
       few = omega (arith, ready .first, ready .inputs, ready .count);
       room = subst (λ d. Room (gate-lines (r .count) d (r .behind) (ahead (r .words))) (length (c .args .store .now))) (sym (ready .first))
           (fits-room (c .args .text .now) (r .inputs) (r .count) (r .output) (r .behind) (length (c .args .store .now)) (ahead (r .words)) (ap heading (sym (c .new .ensures .unread)) ∙ told .reads) (c .pre .fits));

@@ -16,7 +16,6 @@ loop-i-holds c =
     let all : n - 0 ≡ n = omega arith in
     let count : s .count ≡ n - 0 = omega arith in
     let size : length (c .args .store .now) ≡ length (c .args .store .now) - 0 = omega arith in (
-      c .pre .some,
       omega (arith, c .pre .few, c .count-count .ensures .value),
       subst (λ k. Room (gate-lines k (s .due) (s .behind) (ahead (s .words))) (length (c .args .store .now) - 0)) count (subst (Room (gate-lines (s .count) (s .due) (s .behind) (ahead (s .words)))) size (c .pre .room)),
       ap (λ k. laid-from 0 (gate-lines k (s .due) (s .behind) (ahead (s .words))) (c .args .store .now)) all ∙ laid-all (gate-lines n (s .due) (s .behind) (ahead (s .words))) (c .args .store .now),
@@ -33,7 +32,7 @@ more c =
 left : (c : need.In-Ok) → Room (gate-lines (c .count-count .result - (c .loop-i .i + 1)) (c .loop-i .gates .due + 2) (c .gate .last .self .behind) (ahead (c .gate .last .self .words))) (length (c .loop-i .store) - c .loop-i .i - 1) × (0 < length (c .loop-i .store) - c .loop-i .i)
 left c =
     let room : ℕ = length (c .loop-i .store) - c .loop-i .i in
-    room-one (c .in-Ok .gate) _ room (subst (λ r. Room r room) (more c) (c .loop-i .inv .2))
+    room-one (c .in-Ok .gate) _ room (subst (λ r. Room r room) (more c) (c .loop-i .inv .1))
 
 pub index-store-i : need.index-store-i
 index-store-i c = omega (arith, left c .1)
@@ -42,7 +41,7 @@ pub unreachable-requires : need.unreachable-requires
 unreachable-requires c κs =
     let s = c .loop-i .gates in
     let n = c .count-count .result in
-    subst (λ r. Room r (length (c .loop-i .store) - c .loop-i .i)) (fault (n - c .loop-i .i) (n - (c .loop-i .i + 1)) (s .due) (s .behind) (ahead (s .words)) (omega arith) (c .in-Err .field-0) (c .in-Err .ensures tt .reads)) (c .loop-i .inv .2)
+    subst (λ r. Room r (length (c .loop-i .store) - c .loop-i .i)) (fault (n - c .loop-i .i) (n - (c .loop-i .i + 1)) (s .due) (s .behind) (ahead (s .words)) (omega arith) (c .in-Err .field-0) (c .in-Err .ensures tt .reads)) (c .loop-i .inv .1)
 
 pub loop-i-again : need.loop-i-again
 loop-i-again c =
@@ -51,27 +50,26 @@ loop-i-again c =
     let n = c .count-count .result - (i + 1) in
     let t = c .gate .last .self in
     let told = c .in-Ok .ensures tt in
-    let same = sym (told .due) in
+    let same : c .loop-i .gates .due + 2 ≡ t .due = omega (arith, c .loop-i .inv .0, told .due) in
     let room = left c in
     let size : length s - i - 1 ≡ length (set s i (c .in-Ok .gate)) - (i + 1) = simp length-set (omega arith) in (
       omega (arith, c .loop-i .inv .0, told .due),
-      omega (arith, c .loop-i .inv .1, told .due),
       subst (λ d. Room (gate-lines n d (t .behind) (ahead (t .words))) (length (set s i (c .in-Ok .gate)) - (i + 1))) same
           (subst (Room (gate-lines n (c .loop-i .gates .due + 2) (t .behind) (ahead (t .words)))) size (room .0)),
       ap (λ d. laid-from (i + 1) (gate-lines n d (t .behind) (ahead (t .words))) (set s i (c .in-Ok .gate))) (sym same)
           ∙ laid-one i (c .in-Ok .gate) (gate-lines n (c .loop-i .gates .due + 2) (t .behind) (ahead (t .words))) s (length s - i - 1) (omega (arith, room .1)) (room .0)
           ∙ ap (λ r. laid-from i r s) (sym (more c))
-          ∙ c .loop-i .inv .3,
+          ∙ c .loop-i .inv .2,
     )
 
 pub returns : need.returns
 returns c =
     let s = c .loop-i .gates in
     let a = c .args .gates in
-    let end = none-left (c .count-count .result - c .loop-i .i) (s .due) (s .behind) (ahead (s .words)) (length (c .loop-i .store) - c .loop-i .i) (omega arith) (c .loop-i .inv .2) in
+    let end = none-left (c .count-count .result - c .loop-i .i) (s .due) (s .behind) (ahead (s .words)) (length (c .loop-i .store) - c .loop-i .i) (omega arith) (c .loop-i .inv .1) in
     record {
       store = sym (laid-none (c .loop-i .i) (c .loop-i .store))
           ∙ ap (λ r. laid-from (c .loop-i .i) r (c .loop-i .store)) (sym end)
-          ∙ c .loop-i .inv .3
+          ∙ c .loop-i .inv .2
           ∙ ap (λ n. laid (gate-lines n (a .due) (a .behind) (ahead (a .words))) (c .args .store .now)) (c .count-count .ensures .value);
     }

@@ -1,4 +1,4 @@
-use mathlib.Core.Path.{sym, ap, _∙_}
+use mathlib.Core.Path.{_≡_, sym, ap, _∙_}
 use Prim.Native.Nat.{_+_, _-_}
 use native.Mathlib.Omega.{arith}
 use Rattle.std.proofs.shelf.Results.{err-from-errBy}
@@ -16,13 +16,13 @@ loop-again c =
     let t = c .gate .last .self in
     let n = c .count-end .result in
     let left = n - (c .loop .counter + 1) in
+    let same : s .due + 2 ≡ t .due = omega (arith, c .loop .inv .0, told .due) in
     let gate = c .in-Continue-gate .field-0 in (
       omega (arith, c .loop .inv .0, told .due),
-      omega (arith, c .loop .inv .1, told .due),
-      c .loop .inv .2
+      c .loop .inv .1
           ∙ ap verdict (step (n - c .loop .counter) left (s .due) (s .behind) (ahead (s .words)) (omega arith) (t .behind) (ahead (t .words)) gate (told .reads))
           ∙ same-verdict gate (gate-lines left (s .due + 2) (t .behind) (ahead (t .words)))
-          ∙ ap (λ d. verdict (gate-lines left d (t .behind) (ahead (t .words)))) (sym (told .due)),
+          ∙ ap (λ d. verdict (gate-lines left d (t .behind) (ahead (t .words)))) same,
     )
 
 pub returns-in-Break-gate : need.returns-in-Break-gate
@@ -31,10 +31,10 @@ returns-in-Break-gate c =
     let s = c .loop .gates in
     let n = c .count-end .result in
     record {
-      reads = rw (p .1, p .2) (sym (c .loop .inv .2 ∙ ap verdict (fault (n - c .loop .counter) (n - (c .loop .counter + 1)) (s .due) (s .behind) (ahead (s .words)) (omega arith) (c .in-Break-gate .field-0 .0) (c .in-Break-gate .ensures tt .reads))));
+      reads = rw (p .1, p .2) (sym (c .loop .inv .1 ∙ ap verdict (fault (n - c .loop .counter) (n - (c .loop .counter + 1)) (s .due) (s .behind) (ahead (s .words)) (omega arith) (c .in-Break-gate .field-0 .0) (c .in-Break-gate .ensures tt .reads))));
     }
 
 pub returns : need.returns
 returns c =
     let s = c .loop .gates in
-    record { reads = c .finish .ensures .reads ∙ sym (c .loop .inv .2 ∙ at-end (c .count-end .result - c .loop .counter) (s .due) (s .behind) (ahead (s .words)) (omega arith)) }
+    record { reads = c .finish .ensures .reads ∙ sym (c .loop .inv .1 ∙ at-end (c .count-end .result - c .loop .counter) (s .due) (s .behind) (ahead (s .words)) (omega arith)) }

@@ -7,7 +7,6 @@ use Rattle.aiger_load.proofs.passes.read_through.Given as given
 
 abbrev pub Inv-loop : given.InvT-loop
 Inv-loop l =
-    (1 ≤ l .gates .due)
-    × (l .gates .due + 2 * (l .end - l .counter) ≤ 4162)
+    (l .gates .due + 2 * (l .end - l .counter) ≤ 4162)
     × (verdict (gate-lines (l .entry .gates .count) (l .entry .gates .due) (l .entry .gates .behind) (ahead (l .entry .gates .words)))
     ≡ verdict (gate-lines (l .end - l .counter) (l .gates .due) (l .gates .behind) (ahead (l .gates .words))))

@@ -17,7 +17,7 @@ pub loop-literal-again : need.loop-literal-again
 loop-literal-again c =
     let told = c .in-Continue-literal .ensures tt in
     let l = c .in-Continue-literal .literal in
-    let same = toZ-ofZ w8 l (up-to-fits (c .args .vars) l (c .pre .few) (told .bound)) in
+    let same = toZ-ofZ w8 l (up-to-fits (c .args .vars) l (told .bound)) in
     c .loop-literal .inv
     ∙ line-step (c .args .vars) (c .loop-literal .rule) (ahead (c .loop-literal .words)) (ahead (c .literal .last .words)) l (told .reads) (not-zero l (c .if-literal-eq0 .left))
     ∙ ap (λ r. set-line-from (c .args .vars) r (ahead (c .literal .last .words))) (sym (c .with-rule .ensures .added ∙ ap (with-literal (c .loop-literal .rule)) same))

@@ -10,6 +10,5 @@ pour-requires c κs =
     let told = c .in-Ok .ensures tt in
     let r = c .in-Ok .rules in
     record {
-      few = told .few;
       room = fits-room (c .args .text .now) (r .vars) (r .count) (r .behind) (length (c .args .store .now)) (ahead (r .words)) (ap heading (sym (c .new .ensures .unread)) ∙ told .reads) (c .pre .fits);
     }

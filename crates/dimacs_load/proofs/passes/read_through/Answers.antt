@@ -1,5 +1,5 @@
-use mathlib.Core.Path.{sym, ap, subst, _∙_}
-use Prim.Native.Nat.{_+_, _-_, _≤_}
+use mathlib.Core.Path.{sym, ap, _∙_}
+use Prim.Native.Nat.{_+_, _-_}
 use native.Mathlib.Omega.{arith}
 use Rattle.std.proofs.shelf.Results.{err-from-errBy}
 use Rattle.stores.specs.Stores.{verdict}
@@ -16,13 +16,11 @@ loop-again c =
     let t = c .rule .last .self in
     let n = c .count-end .result in
     let left = n - (c .loop .counter + 1) in
-    let set = c .in-Continue-rule .field-0 in (
-      subst (λ v. v ≤ 64) (sym (told .vars)) (c .loop .inv .0),
-      c .loop .inv .1
-          ∙ ap verdict (step (s .vars) (n - c .loop .counter) left (s .behind) (ahead (s .words)) (omega arith) (t .behind) (ahead (t .words)) set (told .reads))
-          ∙ same-verdict set (set-body (s .vars) left (t .behind) (ahead (t .words)))
-          ∙ ap (λ v. verdict (set-body v left (t .behind) (ahead (t .words)))) (sym (told .vars)),
-    )
+    let set = c .in-Continue-rule .field-0 in
+    c .loop .inv
+    ∙ ap verdict (step (s .vars) (n - c .loop .counter) left (s .behind) (ahead (s .words)) (omega arith) (t .behind) (ahead (t .words)) set (told .reads))
+    ∙ same-verdict set (set-body (s .vars) left (t .behind) (ahead (t .words)))
+    ∙ ap (λ v. verdict (set-body v left (t .behind) (ahead (t .words)))) (sym (told .vars))
 
 pub returns-in-Break-rule : need.returns-in-Break-rule
 returns-in-Break-rule c =
@@ -30,10 +28,10 @@ returns-in-Break-rule c =
     let s = c .loop .rules in
     let n = c .count-end .result in
     record {
-      reads = rw (p .1, p .2) (sym (c .loop .inv .1 ∙ ap verdict (fault (s .vars) (n - c .loop .counter) (n - (c .loop .counter + 1)) (s .behind) (ahead (s .words)) (omega arith) (c .in-Break-rule .field-0 .0) (c .in-Break-rule .ensures tt .reads))));
+      reads = rw (p .1, p .2) (sym (c .loop .inv ∙ ap verdict (fault (s .vars) (n - c .loop .counter) (n - (c .loop .counter + 1)) (s .behind) (ahead (s .words)) (omega arith) (c .in-Break-rule .field-0 .0) (c .in-Break-rule .ensures tt .reads))));
     }
 
 pub returns : need.returns
 returns c =
     let s = c .loop .rules in
-    record { reads = c .finish .ensures .reads ∙ sym (c .loop .inv .1 ∙ at-end (s .vars) (c .count-end .result - c .loop .counter) (s .behind) (ahead (s .words)) (omega arith)) }
+    record { reads = c .finish .ensures .reads ∙ sym (c .loop .inv ∙ at-end (s .vars) (c .count-end .result - c .loop .counter) (s .behind) (ahead (s .words)) (omega arith)) }

@@ -1,5 +1,5 @@
 use mathlib.Core.Path.{_≡_}
-use Prim.Native.Nat.{_-_, _≤_}
+use Prim.Native.Nat.{_-_}
 use Rattle.stores.specs.Stores.{verdict}
 use Rattle.texts.specs.Lexemes.{ahead}
 use Rattle.dimacs_load.specs.Loads.{set-body}
@@ -7,6 +7,5 @@ use Rattle.dimacs_load.proofs.passes.read_through.Given as given
 
 abbrev pub Inv-loop : given.InvT-loop
 Inv-loop l =
-    (l .rules .vars ≤ 64)
-    × (verdict (set-body (l .entry .rules .vars) (l .entry .rules .count) (l .entry .rules .behind) (ahead (l .entry .rules .words)))
-    ≡ verdict (set-body (l .rules .vars) (l .end - l .counter) (l .rules .behind) (ahead (l .rules .words))))
+    verdict (set-body (l .entry .rules .vars) (l .entry .rules .count) (l .entry .rules .behind) (ahead (l .entry .rules .words)))
+    ≡ verdict (set-body (l .rules .vars) (l .end - l .counter) (l .rules .behind) (ahead (l .rules .words)))
