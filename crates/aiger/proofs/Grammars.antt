@@ -21,6 +21,7 @@ use Rattle.texts.proofs.Spellings.{lines-join, lines-split, given, ended-is, en
 use Rattle.aiger.specs.declared.Gate.{Gate}
 use Rattle.aiger.specs.Aag.{count-due, heading-line, due-line, input-lines, Heading, heading, gate-line, gate-lines, Aag, aag, read-aag}
 use Rattle.aiger.specs.Grammar.{heading-words, input-words, gate-words, Below, Spelled, Reads-just}
+use Rattle.aiger.proofs.Refusals.{refused-at}
 use Rattle.aiger.proofs.Inputs.{input-step}
 
 -- a word that gave what was due, and what follows it
@@ -340,4 +341,4 @@ module _ (text : List ℕ) where
       ∙ ap (λ r. and-then r (λ gs. Ok (record { inputs = I; output = c .output; gates = gs }))) (gates-ok (c .gates) (2 * I + 2) (second .0) (s .behind) (second .1) (s .rest) (omega (arith, good .few-inputs, good .few-gates)) (good .sides-below) (second .3) (s .ends-behind))
 
   pub reads-just : Reads-just text
-  reads-just = record { sound = sound; complete = complete }
+  reads-just = record { sound = sound; complete = complete; refused = refused-at text }

@@ -4,8 +4,10 @@ use mathlib.Core.List.{List, [], _∷_, _++_}
 use Prim.Native.Nat.{ℕ, zero, suc, _+_, _*_, _≤_, _<_}
 use lib.Chars.{codes}
 use lib.ListN.{length}
-use Rattle.std.specs.declared.result.Result.the-variants.{Ok}
+use Rattle.std.specs.declared.result.Result.the-variants.{Ok, Err}
 use Rattle.std.specs.Written.{decimal}
+use Rattle.faults.specs.declared.TextFault.{TextFault}
+use Rattle.texts.specs.Places.{fault-place, Stands}
 use Rattle.texts.specs.Lexemes.{Lexeme, lexemes-from}
 use Rattle.texts.specs.Lines.{Lines, Ends}
 use Rattle.aiger.specs.declared.Gate.{Gate}
@@ -51,7 +53,8 @@ pub record Spelled (text : List ℕ) (c : Aag) : Type 0 where
   pub lines : Lines (aag-lines c) 0 (lexemes-from 0 text) behind rest
   pub ends-behind : Ends behind rest
 
--- a text reads as c just when it spells c
+-- a text reads as c just when it spells c, and the fault of any other that is not too long stands at one of its words, line feeds or its end
 pub record Reads-just (text : List ℕ) : Type 0 where
   pub sound : (c : Aag) → read-aag text ≡ Ok c → Spelled text c
   pub complete : (c : Aag) → Spelled text c → read-aag text ≡ Ok c
+  pub refused : (f : TextFault) → length text ≤ 60000 → read-aag text ≡ Err f → Stands (fault-place f) (lexemes-from 0 text)

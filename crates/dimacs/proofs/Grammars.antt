@@ -21,6 +21,7 @@ use Rattle.texts.proofs.Dues.{first-then, judged, number-is, exactly-is, line-e
 use Rattle.dimacs.specs.Literals.{literal}
 use Rattle.dimacs.specs.Cnf.{comment, opening, Heading, heading, is-zero, literals, rule, body, Cnf, cnf, read-cnf}
 use Rattle.dimacs.specs.Grammar.{Comment, heading-words, rule-words, cnf-lines, Spelled, Reads-just}
+use Rattle.dimacs.proofs.Refusals.{refused-at}
 use Rattle.dimacs.proofs.Lines.{onward}
 use Rattle.dimacs.proofs.Literals.{Named, literal-is, named-from, zero-word, literal-ok, zero-ok, named-some}
 
@@ -271,4 +272,4 @@ module _ (text : List ℕ) where
       ∙ ap (λ r. and-then r (λ rs. Ok (record { vars = V; rules = rs }))) (body-ok V (good .few-variables) (c .rules) (second .0) (s .behind) (second .1) (s .rest) (good .named) (second .3) (s .ends-behind))
 
   pub reads-just : Reads-just text
-  reads-just = record { sound = sound; complete = complete }
+  reads-just = record { sound = sound; complete = complete; refused = refused-at text }

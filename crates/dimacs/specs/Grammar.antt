@@ -6,11 +6,13 @@ use Prim.Native.Nat.{ℕ, _≤_}
 use lib.Chars.{codes}
 use lib.IntN.{ℤ}
 use lib.ListN.{length, getD}
-use Rattle.std.specs.declared.result.Result.the-variants.{Ok}
+use Rattle.std.specs.declared.result.Result.the-variants.{Ok, Err}
 use Rattle.std.specs.Written.{decimal, signed}
 use Rattle.std.specs.shelf.Lists.{All}
+use Rattle.faults.specs.declared.TextFault.{TextFault}
 use Rattle.literals.specs.Literals.{names}
 use Rattle.texts.specs.Lexemes.{Lexeme, lexemes-from}
+use Rattle.texts.specs.Places.{fault-place, Stands}
 use Rattle.texts.specs.Lines.{Lines, Ends}
 use Rattle.dimacs.specs.Cnf.{Cnf, read-cnf}
 
@@ -47,7 +49,8 @@ pub record Spelled (text : List ℕ) (c : Cnf) : Type 0 where
   pub lines : Lines (comments ++ cnf-lines c) 0 (lexemes-from 0 text) behind rest
   pub ends-behind : Ends behind rest
 
--- a text reads as c just when it spells c
+-- a text reads as c just when it spells c, and the fault of any other that is not too long stands at one of its words, line feeds or its end
 pub record Reads-just (text : List ℕ) : Type 0 where
   pub sound : (c : Cnf) → read-cnf text ≡ Ok c → Spelled text c
   pub complete : (c : Cnf) → Spelled text c → read-cnf text ≡ Ok c
+  pub refused : (f : TextFault) → length text ≤ 60000 → read-cnf text ≡ Err f → Stands (fault-place f) (lexemes-from 0 text)
