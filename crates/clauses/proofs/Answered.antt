@@ -1,20 +1,17 @@
 -- From the settings of all variables to those of the contacts.
-use mathlib.Core.Path.{_≡_, refl, sym, ap, ap₂, subst, _∙_}
-use mathlib.Core.Bool.{Bool, true, false, not, cond, _&&_, _||_}
-use mathlib.Core.List.{List, [], _∷_, _++_, map}
-use Prim.Native.Nat.{ℕ, zero, suc, _+_, _-_, _^_, _<_, _≤_}
+use mathlib.Core.Path.{_≡_, refl, sym, ap, ap₂, _∙_}
+use mathlib.Core.Bool.{Bool, true, false, not, cond, _&&_}
+use mathlib.Core.List.{List, [], _∷_, _++_}
+use Prim.Native.Nat.{ℕ, zero, suc, _+_, _-_, _<_, _≤_}
 use native.Mathlib.Omega.{arith}
-use lib.Bits.{bitAnd}
-use lib.Dec.{ltb}
 use lib.IntN.{ℤ, pos, negsuc}
-use lib.ListN.{length, getD, take, drop, take-append-drop, length-append, length-drop}
-use Rattle.std.specs.Iters.{counting}
+use lib.ListN.{length, take, drop, take-append-drop, length-append, length-drop}
 use Rattle.std.specs.Options.{mapped}
 use Rattle.std.specs.declared.option.Option.{Option}
 use Rattle.std.specs.declared.option.Option.the-variants.{Some, None}
 use Rattle.std.proofs.shelf.Counted.{take-map-counting, length-map-counting, fill-by-all}
 use Rattle.std.proofs.shelf.Lists.{getD-append-left}
-use Rattle.std.proofs.shelf.Tests.{and-from, and-parts, ltb-true}
+use Rattle.std.proofs.shelf.Tests.{ltb-true}
 use Rattle.literals.specs.Bits.{bit}
 use Rattle.literals.specs.Literals.{names, first-unnamed, set-of}
 use Rattle.literals.proofs.Bits.{bit-and, bit-ones}

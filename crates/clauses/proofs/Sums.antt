@@ -3,9 +3,9 @@ use mathlib.Core.Path.{_≡_, refl, sym, ap, ap₂, subst, _∙_}
 use mathlib.Core.Bool.{Bool, true, false, not, _&&_, _||_}
 use mathlib.Core.List.{List, [], _∷_, map}
 use mathlib.Core.Logic.{⊎-elim}
-use Prim.Native.Nat.{ℕ, _+_, _<_, _≤_}
+use Prim.Native.Nat.{ℕ, _<_, _≤_}
 use native.Mathlib.Omega.{arith}
-use lib.ListN.{length, getD, take}
+use lib.ListN.{length, take}
 use lib.Seq.{take-all}
 use Rattle.std.specs.declared.option.Option.the-variants.{None}
 use Rattle.std.proofs.shelf.Tests.{and-from, and-parts, or-parts, cases-bool}
@@ -14,13 +14,13 @@ use Rattle.settings.specs.Settings.{meets, covers, opposite, all-met, any-cover
 use Rattle.settings.proofs.Sets.{bar-is-rule}
 use Rattle.search.specs.declared.Assignment.{Assignment}
 use Rattle.search.specs.declared.Found.the-variants.{Conflict, Forced as Forces, Met}
-use Rattle.search.specs.Assignments.{agreeing, decided, Clear, filled}
+use Rattle.search.specs.Assignments.{agreeing, decided, filled}
 use Rattle.search.specs.Search.{Says}
 use Rattle.search.proofs.Assignments.{length-filled, agreeing-own}
 use Rattle.rules.specs.declared.Scan.{Scan}
 use Rattle.rules.specs.declared.Scan.the-variants.{Failed, Forced, Quiet}
-use Rattle.rules.specs.Rules.{as-rule, scanned, any-unmet, Choice}
-use Rattle.rules.proofs.Forces.{Tells, tells-all, all-touched}
+use Rattle.rules.specs.Rules.{as-rule, scanned, Choice}
+use Rattle.rules.proofs.Forces.{Tells, tells-all, met-all}
 use Rattle.clauses.specs.declared.ClauseSolver.{ClauseSolver}
 use Rattle.clauses.specs.Clauses.{InOrder, clause-variables, clause-added, clause-bars, clause-good, clause-scan, clause-unmet, else-scan}
 
@@ -112,8 +112,8 @@ module _ (s : ClauseSolver) (o : InOrder s) (a : Assignment) where
       let p = or-parts _ _ h in
       let q = or-parts _ _ (p .0) in
       sym (found-same s x)
-      ∙ and-from _ _ (ap (all-met loaded) (sym (take-all n x (omega arith))) ∙ all-touched n (o .few-variables) a loaded (q .0) x (omega arith) fit)
-      (and-from _ _ (all-touched m few a (map (as-rule false) (clause-added s)) (q .1) x (omega arith) fit) (all-touched m few a (map (as-rule true) (clause-bars s)) (p .1) x (omega arith) fit))
+      ∙ and-from _ _ (ap (all-met loaded) (sym (take-all n x (omega arith))) ∙ met-all n (o .few-variables) a loaded (q .0) x (omega arith) fit)
+      (and-from _ _ (met-all m few a (map (as-rule false) (clause-added s)) (q .1) x (omega arith) fit) (met-all m few a (map (as-rule true) (clause-bars s)) (p .1) x (omega arith) fit))
 
   -- a quiet look and no variable to try: the assignment meets all, with the rest open
   pub quiet-met : Quiet ≡ clause-scan s a → Choice (clause-variables s) a (clause-unmet s a) None → Says (clause-variables s) (clause-good s) a Met

@@ -23,6 +23,7 @@ use Rattle.rules.specs.Rules.{as-rule, scanned, any-unmet}
 use Rattle.clauses.specs.declared.counts.VariableCounts.{VariableCounts}
 use Rattle.clauses.specs.declared.ClauseSolver.{ClauseSolver}
 
+-- the contacts come first among the variables
 abbrev pub clause-contacts : ClauseSolver → ℕ
 clause-contacts s = s .contacts
 
@@ -50,10 +51,12 @@ loaded-meaning n inner rules = record { contacts = n; base = λ x. some inner (�
 abbrev pub suits : ℕ → ℕ → Bool
 suits variables contacts = (leb 1 contacts && leb contacts 32) && (leb contacts variables && leb variables 64)
 
+-- the counts that were made, or the refusal
 abbrev pub Counted : ℕ → ℕ → Result VariableCounts SheetFault → Type 0
 Counted variables contacts (Ok c) = (suits variables contacts ≡ true) × (c .contacts ≡ contacts) × (c .inner ≡ variables - contacts)
 Counted variables contacts (Err f) = (suits variables contacts ≡ false) × (f ≡ WrongContacts)
 
+-- a solver is in order when it has 1 to 32 contacts and at most 64 variables with them
 pub record InOrder (s : ClauseSolver) : Type 0 where
   pub some-contact : 1 ≤ s .contacts
   pub few-contacts : s .contacts ≤ 32
@@ -75,11 +78,13 @@ else-scan Quiet later = later
 else-scan Failed later = Failed
 else-scan (Forced k b) later = Forced k b
 
+-- what the first rule says that forces a literal or has failed: of the loaded rules, then of the added ones, then of the bars as rules
 abbrev pub clause-scan : ClauseSolver → Assignment → Scan
 clause-scan s a =
     else-scan (scanned (clause-variables s) (map (as-rule false) (s .rules .now)) a)
     (else-scan (scanned (s .contacts) (map (as-rule false) (rules-of (s .additions))) a) (scanned (s .contacts) (map (as-rule true) (bars-of (s .additions))) a))
 
+-- some rule of the three kinds is not met yet
 abbrev pub clause-unmet : ClauseSolver → Assignment → Bool
 clause-unmet s a =
     (any-unmet (clause-variables s) (map (as-rule false) (s .rules .now)) a || any-unmet (s .contacts) (map (as-rule false) (rules-of (s .additions))) a)

@@ -105,6 +105,7 @@ impl ClauseSolver<'_> {
         }
     }
 
+    // How often each variable occurs in the shortest rules that are not met, of all three kinds.
     fn tally(&self, assignment: Assignment) -> Tally
         requires ordered { ⌜ InOrder (now self) ⌝ }
         ensures unmet { λ r. ⌜ r .unmet ≡ clause-unmet (now (self .entry)) assignment ⌝ }
@@ -116,6 +117,7 @@ impl ClauseSolver<'_> {
         tally
     }
 
+    // A standing setting that agrees with the literals, each of which names a contact; none exactly where there is none.
     fn answer(&self, literals: &[i8]) -> Option<Setting>
         requires ordered { ⌜ InOrder (now self) ⌝ }
         requires named { ⌜ first-unnamed (now self .contacts) (now literals) ≡ None ⌝ }

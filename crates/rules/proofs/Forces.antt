@@ -5,7 +5,6 @@ use mathlib.Core.List.{List, [], _∷_}
 use mathlib.Core.Logic.{⊎-elim}
 use Prim.Native.Nat.{ℕ, zero, suc, _+_, _<_, _≤_}
 use native.Mathlib.Omega.{arith}
-use lib.Dec.{ltb}
 use lib.ListN.{length, getD, take}
 use Rattle.std.specs.declared.option.Option.{Option}
 use Rattle.std.specs.declared.option.Option.the-variants.{Some, None}
@@ -22,8 +21,8 @@ use Rattle.search.specs.Assignments.{taken, agreeing, decided}
 use Rattle.search.proofs.Pointwise.{meets-in, meets-out, covers-out}
 use Rattle.rules.specs.declared.Scan.{Scan}
 use Rattle.rules.specs.declared.Scan.the-variants.{Failed, Forced, Quiet}
-use Rattle.rules.specs.Rules.{restricted, met-mask, left-mask, touched, several, passes, loose-at, first-loose, scanned, any-unmet}
-use Rattle.rules.proofs.Masks.{one-bit, has-restricted, met-bits, left-bits, untouched, touched-at, several-at}
+use Rattle.rules.specs.Rules.{restricted, met-mask, undecided-in, is-met, several, is-quiet, wanted-at, first-wanted, scanned, any-unmet}
+use Rattle.rules.proofs.Masks.{one-bit, has-restricted, met-bits, left-bits, none-met, is-met-at, several-at}
 
 -- what is found on n variables holds of every setting of these and more
 abbrev pub Tells : ℕ → List LiteralSet → Assignment → Scan → Type 0
@@ -69,11 +68,11 @@ table-wanted false false true = (refl, refl)
 table-wanted false false false = λ e. (refl, refl)
 
 module _ (r : LiteralSet) (a : Assignment) (k : ℕ) where
-  wants-none : (b : Bool) → loose-at r a k ≡ None → decided a k ≡ false → has r k b ≡ false
+  wants-none : (b : Bool) → wanted-at r a k ≡ None → decided a k ≡ false → has r k b ≡ false
   wants-none true e g = subst (Wanted (decided a k) (bit (r .closed) k) (bit (r .opened) k)) e (table-wanted (decided a k) (bit (r .closed) k) (bit (r .opened) k)) g .0
   wants-none false e g = subst (Wanted (decided a k) (bit (r .closed) k) (bit (r .opened) k)) e (table-wanted (decided a k) (bit (r .closed) k) (bit (r .opened) k)) g .1
 
-  wants : (b : Bool) → loose-at r a k ≡ Some b → (decided a k ≡ false) × (has r k b ≡ true)
+  wants : (b : Bool) → wanted-at r a k ≡ Some b → (decided a k ≡ false) × (has r k b ≡ true)
   wants true e = subst (Wanted (decided a k) (bit (r .closed) k) (bit (r .opened) k)) e (table-wanted (decided a k) (bit (r .closed) k) (bit (r .opened) k))
   wants false e = subst (Wanted (decided a k) (bit (r .closed) k) (bit (r .opened) k)) e (table-wanted (decided a k) (bit (r .closed) k) (bit (r .opened) k))
 
@@ -90,7 +89,7 @@ module _ (r : LiteralSet) (a : Assignment) (k : ℕ) where
   has-either true h = ap (λ x. x || bit (r .opened) k) h
   has-either false h = grind (arith, tells)
 
-  left-at : (b : Bool) → decided a k ≡ false → has r k b ≡ true → bit (left-mask r a) k ≡ true
+  left-at : (b : Bool) → decided a k ≡ false → has r k b ≡ true → bit (undecided-in r a) k ≡ true
   left-at b g h = left-bits r a k ∙ table-left (bit (r .closed) k) (bit (r .opened) k) (decided a k) g (has-either b h)
 
   -- a rule that is not met has no opposite literals
@@ -116,63 +115,63 @@ module _ (n : ℕ) (few : n ≤ 64) (r : LiteralSet) (a : Assignment) (x : List 
   met-in : (k : ℕ) → k < n → has (restricted n r) k (getD x k false) ≡ true → meets r (take n x) ≡ true
   met-in k lt h = meets-in r (take n x) k (omega (arith, length-take-le n x long)) (ap (has r k) (getD-take n x k false lt) ∙ and-parts _ _ (sym (has-restricted n r k (getD x k false) few) ∙ h) .0)
 
-  pub touched-meets : touched (restricted n r) a ≡ true → meets r (take n x) ≡ true
-  touched-meets t = let s = touched-at n r a t in met-in (s .0) (s .1) (met-at (restricted n r) a (s .0) (getD x (s .0) false) (s .2) (agrees-at (s .0) (s .1)))
+  pub is-met-meets : is-met (restricted n r) a ≡ true → meets r (take n x) ≡ true
+  is-met-meets t = let s = is-met-at n r a t in met-in (s .0) (s .1) (met-at (restricted n r) a (s .0) (getD x (s .0) false) (s .2) (agrees-at (s .0) (s .1)))
 
-  several-meets : several (left-mask (restricted n r) a) ≡ true → ((k : ℕ) → k < n → decided a k ≡ true) → ⊥
+  several-meets : several (undecided-in (restricted n r) a) ≡ true → ((k : ℕ) → k < n → decided a k ≡ true) → ⊥
   several-meets t all =
       let s = several-at n r a t in
       table-free (bit (restricted n r .closed) (s .0) || bit (restricted n r .opened) (s .0)) (decided a (s .0)) (sym (left-bits (restricted n r) a (s .0)) ∙ s .2) (all (s .0) (s .1))
 
-  passes-meets : passes (restricted n r) a ≡ true → ((k : ℕ) → k < n → decided a k ≡ true) → meets r (take n x) ≡ true
-  passes-meets t all = ⊎-elim touched-meets (λ s. absurd (several-meets s all)) (or-cases _ _ t)
+  quiet-meets : is-quiet (restricted n r) a ≡ true → ((k : ℕ) → k < n → decided a k ≡ true) → meets r (take n x) ≡ true
+  quiet-meets t all = ⊎-elim is-met-meets (λ s. absurd (several-meets s all)) (or-cases _ _ t)
 
-  module _ (t : passes (restricted n r) a ≡ false) (met : meets r (take n x) ≡ true) where
+  module _ (t : is-quiet (restricted n r) a ≡ false) (met : meets r (take n x) ≡ true) where
     not-met : (k : ℕ) → bit (met-mask (restricted n r) a) k ≡ false
-    not-met = untouched (restricted n r) a (or-parts _ _ t .0)
+    not-met = none-met (restricted n r) a (or-parts _ _ t .0)
 
     open-out : (k : ℕ) → k < n → has (restricted n r) k (getD x k false) ≡ true → decided a k ≡ false
     open-out k lt h = open-at (restricted n r) a k (getD x k false) (not-met k) (agrees-at k lt) h
 
-    failed : ((k : ℕ) → k < n → loose-at (restricted n r) a k ≡ None) → ⊥
+    failed : ((k : ℕ) → k < n → wanted-at (restricted n r) a k ≡ None) → ⊥
     failed none =
         let s = met-out met in
         both-ways _ (wants-none (restricted n r) a (s .0) (getD x (s .0) false) (none (s .0) (s .1)) (open-out (s .0) (s .1) (s .2))) (s .2)
 
-    forced : (k : ℕ) (b : Bool) → k < n → loose-at (restricted n r) a k ≡ Some b → getD x k false ≡ b
+    forced : (k : ℕ) (b : Bool) → k < n → wanted-at (restricted n r) a k ≡ Some b → getD x k false ≡ b
     forced k b lt e =
         let s = met-out met in
         let w = wants (restricted n r) a k b e in
-        let same : s .0 ≡ k = one-bit (left-mask (restricted n r) a) (s .0) k (or-parts _ _ t .1) (left-at (restricted n r) a (s .0) _ (open-out (s .0) (s .1) (s .2)) (s .2)) (left-at (restricted n r) a k b (w .0) (w .1)) in
+        let same : s .0 ≡ k = one-bit (undecided-in (restricted n r) a) (s .0) k (or-parts _ _ t .1) (left-at (restricted n r) a (s .0) _ (open-out (s .0) (s .1) (s .2)) (s .2)) (left-at (restricted n r) a k b (w .0) (w .1)) in
         one-way (restricted n r) a k (getD x k false) b (not-met k) (subst (λ j. has (restricted n r) j (getD x j false) ≡ true) same (s .2)) (w .1)
 
 -- ---- a list of rules
 
 module _ (n : ℕ) (few : n ≤ 64) (a : Assignment) where
-  tells-more : (r : LiteralSet) (rs : List LiteralSet) (s : Scan) → passes (restricted n r) a ≡ true → Tells n rs a s → Tells n (r ∷ rs) a s
+  tells-more : (r : LiteralSet) (rs : List LiteralSet) (s : Scan) → is-quiet (restricted n r) a ≡ true → Tells n rs a s → Tells n (r ∷ rs) a s
   tells-more r rs Failed t h = λ x long fit met. h x long fit (and-parts (meets r (take n x)) _ met .1)
   tells-more r rs (Forced k b) t h = (h .0, h .1, λ x long fit met. h .2 x long fit (and-parts (meets r (take n x)) _ met .1))
-  tells-more r rs Quiet t h = λ all x long fit. and-from _ _ (passes-meets n few r a x long fit t all) (h all x long fit)
+  tells-more r rs Quiet t h = λ all x long fit. and-from _ _ (quiet-meets n few r a x long fit t all) (h all x long fit)
 
-  tells-here : (r : LiteralSet) (rs : List LiteralSet) (k m : ℕ) → k + m ≡ n → passes (restricted n r) a ≡ false → ((j : ℕ) → j < k → loose-at (restricted n r) a j ≡ None) → Tells n (r ∷ rs) a (first-loose k m (restricted n r) a)
+  tells-here : (r : LiteralSet) (rs : List LiteralSet) (k m : ℕ) → k + m ≡ n → is-quiet (restricted n r) a ≡ false → ((j : ℕ) → j < k → wanted-at (restricted n r) a j ≡ None) → Tells n (r ∷ rs) a (first-wanted k m (restricted n r) a)
   tells-here r rs k zero e t none = λ x long fit met. failed n few r a x long fit t (and-parts _ _ met .0) (λ j lt. none j (omega arith))
-  tells-here r rs k (suc m) e t none = go (loose-at (restricted n r) a k) refl (λ h. tells-here r rs (suc k) m (omega arith) t (below-suc h)) where
-    below-suc : loose-at (restricted n r) a k ≡ None → (j : ℕ) → j < suc k → loose-at (restricted n r) a j ≡ None
-    below-suc h j lt = ⊎-elim (λ same. ap (loose-at (restricted n r) a) same ∙ h) (λ ne. none j (omega (arith, ne))) (cases-eq j k)
+  tells-here r rs k (suc m) e t none = go (wanted-at (restricted n r) a k) refl (λ h. tells-here r rs (suc k) m (omega arith) t (below-suc h)) where
+    below-suc : wanted-at (restricted n r) a k ≡ None → (j : ℕ) → j < suc k → wanted-at (restricted n r) a j ≡ None
+    below-suc h j lt = ⊎-elim (λ same. ap (wanted-at (restricted n r) a) same ∙ h) (λ ne. none j (omega (arith, ne))) (cases-eq j k)
 
-    go : (o : Option Bool) → loose-at (restricted n r) a k ≡ o → (loose-at (restricted n r) a k ≡ None → Tells n (r ∷ rs) a (first-loose (suc k) m (restricted n r) a)) → Tells n (r ∷ rs) a (elim o [ Some b ↦ Forced k b | None ↦ first-loose (suc k) m (restricted n r) a ])
+    go : (o : Option Bool) → wanted-at (restricted n r) a k ≡ o → (wanted-at (restricted n r) a k ≡ None → Tells n (r ∷ rs) a (first-wanted (suc k) m (restricted n r) a)) → Tells n (r ∷ rs) a (elim o [ Some b ↦ Forced k b | None ↦ first-wanted (suc k) m (restricted n r) a ])
     go (Some b) h later = (omega arith, wants (restricted n r) a k b h .0, λ x long fit met. forced n few r a x long fit t (and-parts _ _ met .0) k b (omega arith) h)
     go None h later = later h
 
   pub tells-all : (rs : List LiteralSet) → Tells n rs a (scanned n rs a)
   tells-all [] = λ all x long fit. refl
-  tells-all (r ∷ rs) = go (passes (restricted n r) a) refl (tells-all rs) where
-    go : (b : Bool) → passes (restricted n r) a ≡ b → Tells n rs a (scanned n rs a) → Tells n (r ∷ rs) a (cond b (scanned n rs a) (first-loose 0 n (restricted n r) a))
+  tells-all (r ∷ rs) = go (is-quiet (restricted n r) a) refl (tells-all rs) where
+    go : (b : Bool) → is-quiet (restricted n r) a ≡ b → Tells n rs a (scanned n rs a) → Tells n (r ∷ rs) a (cond b (scanned n rs a) (first-wanted 0 n (restricted n r) a))
     go true t rest = tells-more r rs (scanned n rs a) t rest
     go false t rest = tells-here r rs 0 n (omega arith) t (λ j lt. absurd (omega arith))
 
   -- where no rule is unmet, what agrees with the assignment meets them all
-  pub all-touched : (rs : List LiteralSet) → any-unmet n rs a ≡ false → (x : List Bool) → n ≤ length x → agreeing a x ≡ true → all-met rs (take n x) ≡ true
-  all-touched [] h x long fit = refl
-  all-touched (r ∷ rs) h x long fit =
-      let p = or-parts _ _ h in and-from _ _ (touched-meets n few r a x long fit (not-false _ (p .0))) (all-touched rs (p .1) x long fit)
+  pub met-all : (rs : List LiteralSet) → any-unmet n rs a ≡ false → (x : List Bool) → n ≤ length x → agreeing a x ≡ true → all-met rs (take n x) ≡ true
+  met-all [] h x long fit = refl
+  met-all (r ∷ rs) h x long fit =
+      let p = or-parts _ _ h in and-from _ _ (is-met-meets n few r a x long fit (not-false _ (p .0))) (met-all rs (p .1) x long fit)

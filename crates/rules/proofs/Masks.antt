@@ -1,14 +1,13 @@
 -- Masks of a rule's variables: which bits they have, and when that is one alone.
-use mathlib.Core.Path.{_≡_, refl, sym, ap, ap₂, subst, _∙_}
-use mathlib.Core.Bool.{Bool, true, false, not, _&&_, _||_}
+use mathlib.Core.Path.{_≡_, sym, ap, ap₂, _∙_}
+use mathlib.Core.Bool.{Bool, true, false, _&&_, _||_}
 use mathlib.Core.Logic.{⊎-elim}
-use Prim.Native.Nat.{ℕ, zero, suc, _+_, _-_, _*_, _/_, _%_, _^_, _<_, _≤_, min}
-use native.Mathlib.Nat.{pow-suc}
+use Prim.Native.Nat.{ℕ, _+_, _-_, _*_, _/_, _%_, _^_, _<_, _≤_, min}
 use native.Mathlib.Omega.{arith}
-use lib.Bits.{bitAnd, bitOr, bitXor}
+use lib.Bits.{bitAnd, bitOr}
 use lib.Dec.{eqb, ltb}
-use Rattle.std.proofs.shelf.Bits.{and-le-l, and-le-r, or-lt, xor-lt, pow-pos, pow-add, shl-shr, shr-shr, div-mul-add, div-add-mod', mod-below}
-use Rattle.std.proofs.shelf.Tests.{eqb-true, eqb-false, eq-eqb, not-true, not-false, both-ways, and-from, and-parts, cases-eq, cases-order, lt-ltb}
+use Rattle.std.proofs.shelf.Bits.{and-le-l, and-le-r, or-lt, xor-lt, pow-pos, div-mul-add, div-add-mod', mod-below}
+use Rattle.std.proofs.shelf.Tests.{eqb-true, eqb-false, not-true, not-false, both-ways, and-from, and-parts, cases-eq, cases-order}
 use Rattle.literals.specs.Bits.{bit}
 use Rattle.literals.specs.declared.LiteralSet.{LiteralSet}
 use Rattle.literals.specs.Literals.{has}
@@ -16,7 +15,7 @@ use Rattle.literals.proofs.Bits.{xor, bit-or, bit-and, bit-xor, bit-zero, bit-s
 use Rattle.search.specs.declared.Assignment.{Assignment}
 use Rattle.search.specs.Assignments.{decided, low-mask}
 use Rattle.search.proofs.Assignments.{bit-mod, bit-low}
-use Rattle.rules.specs.Rules.{restricted, met-mask, left-mask, touched, several}
+use Rattle.rules.specs.Rules.{restricted, met-mask, undecided-in, is-met, several}
 
 -- ---- a mask with one bit alone
 
@@ -52,13 +51,13 @@ module _ (r : LiteralSet) (a : Assignment) where
       bit-or _ _ k
       ∙ ap₂ (λ x y. x || y) (bit-or _ _ k ∙ ap₂ (λ x y. x || y) (bit-and (r .closed) (a .closed) k) (bit-and (r .opened) (a .opened) k)) (bit-and (r .closed) (r .opened) k)
 
-  pub left-bits : (k : ℕ) → bit (left-mask r a) k ≡ xor (bit (r .closed) k || bit (r .opened) k) ((bit (r .closed) k || bit (r .opened) k) && decided a k)
+  pub left-bits : (k : ℕ) → bit (undecided-in r a) k ≡ xor (bit (r .closed) k || bit (r .opened) k) ((bit (r .closed) k || bit (r .opened) k) && decided a k)
   left-bits k =
       let l = bit-or (r .closed) (r .opened) k in
       bit-xor _ _ k ∙ ap₂ xor l (bit-and _ _ k ∙ ap₂ (λ x y. x && y) l (bit-or (a .closed) (a .opened) k))
 
-  pub untouched : touched r a ≡ false → (k : ℕ) → bit (met-mask r a) k ≡ false
-  untouched t k = ap (λ (m : ℕ). bit m k) (eqb-true _ 0 (not-false _ t)) ∙ bit-zero k
+  pub none-met : is-met r a ≡ false → (k : ℕ) → bit (met-mask r a) k ≡ false
+  none-met t k = ap (λ (m : ℕ). bit m k) (eqb-true _ 0 (not-false _ t)) ∙ bit-zero k
 
 module _ (n : ℕ) (r : LiteralSet) (a : Assignment) where
   below-closed : restricted n r .closed < 2 ^ min n 64
@@ -70,15 +69,15 @@ module _ (n : ℕ) (r : LiteralSet) (a : Assignment) where
   and-below : (m b c : ℕ) → b < 2 ^ m → bitAnd b c < 2 ^ m
   and-below m b c h = omega (arith, and-le-l b c)
 
-  pub touched-at : touched (restricted n r) a ≡ true → (k : ℕ) × (k < n) × (bit (met-mask (restricted n r) a) k ≡ true)
-  touched-at t =
+  pub is-met-at : is-met (restricted n r) a ≡ true → (k : ℕ) × (k < n) × (bit (met-mask (restricted n r) a) k ≡ true)
+  is-met-at t =
       let lt : met-mask (restricted n r) a < 2 ^ min n 64 = or-lt (min n 64) _ _ (or-lt (min n 64) _ _ (and-below (min n 64) _ (a .closed) below-closed) (and-below (min n 64) _ (a .opened) below-opened)) (and-below (min n 64) _ _ below-closed) in
       let s = bit-some (min n 64) (met-mask (restricted n r) a) lt (eqb-false _ 0 (not-true _ t)) in
       (s .0, omega (arith, s .1 .0), s .1 .1)
 
-  pub several-at : several (left-mask (restricted n r) a) ≡ true → (k : ℕ) × (k < n) × (bit (left-mask (restricted n r) a) k ≡ true)
+  pub several-at : several (undecided-in (restricted n r) a) ≡ true → (k : ℕ) × (k < n) × (bit (undecided-in (restricted n r) a) k ≡ true)
   several-at t =
-      let m = left-mask (restricted n r) a in
+      let m = undecided-in (restricted n r) a in
       let vars : bitOr (restricted n r .closed) (restricted n r .opened) < 2 ^ min n 64 = or-lt (min n 64) _ _ below-closed below-opened in
       let lt : m < 2 ^ min n 64 = xor-lt (min n 64) _ _ vars (and-below (min n 64) _ (bitOr (a .closed) (a .opened)) vars) in
       let s = bit-some (min n 64) (bitAnd m (m - 1)) (and-below (min n 64) m (m - 1) lt) (eqb-false _ 0 (not-true _ t)) in

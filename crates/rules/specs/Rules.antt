@@ -32,38 +32,39 @@ restricted n r = masked (low-mask n) r
 abbrev pub met-mask : LiteralSet → Assignment → ℕ
 met-mask r a = bitOr (bitOr (bitAnd (r .closed) (a .closed)) (bitAnd (r .opened) (a .opened))) (bitAnd (r .closed) (r .opened))
 
-abbrev pub touched : LiteralSet → Assignment → Bool
-touched r a = not (eqb (met-mask r a) 0)
+abbrev pub is-met : LiteralSet → Assignment → Bool
+is-met r a = not (eqb (met-mask r a) 0)
 
 -- the undecided variables of a rule
-abbrev pub left-mask : LiteralSet → Assignment → ℕ
-left-mask r a = let variables = bitOr (r .closed) (r .opened) in bitXor variables (bitAnd variables (bitOr (a .closed) (a .opened)))
+abbrev pub undecided-in : LiteralSet → Assignment → ℕ
+undecided-in r a = let variables = bitOr (r .closed) (r .opened) in bitXor variables (bitAnd variables (bitOr (a .closed) (a .opened)))
 
 -- a mask has two variables or more: one is left without the lowest
 abbrev pub several : ℕ → Bool
 several m = not (eqb (bitAnd m (m - 1)) 0)
 
-abbrev pub passes : LiteralSet → Assignment → Bool
-passes r a = touched r a || several (left-mask r a)
+-- a rule neither forces a literal nor has failed
+abbrev pub is-quiet : LiteralSet → Assignment → Bool
+is-quiet r a = is-met r a || several (undecided-in r a)
 
 -- the value that a rule wants of a variable, if that is undecided
-abbrev pub loose-at : LiteralSet → Assignment → ℕ → Option Bool
-loose-at r a k = cond (decided a k) None (cond (bit (r .closed) k) (Some true) (cond (bit (r .opened) k) (Some false) None))
+abbrev pub wanted-at : LiteralSet → Assignment → ℕ → Option Bool
+wanted-at r a k = cond (decided a k) None (cond (bit (r .closed) k) (Some true) (cond (bit (r .opened) k) (Some false) None))
 
 -- the first such value among n variables from variable k on
-abbrev pub first-loose : ℕ → ℕ → LiteralSet → Assignment → Scan
-first-loose k zero r a = Failed
-first-loose k (suc n) r a = elim (loose-at r a k) [ Some b ↦ Forced k b | None ↦ first-loose (suc k) n r a ]
+abbrev pub first-wanted : ℕ → ℕ → LiteralSet → Assignment → Scan
+first-wanted k zero r a = Failed
+first-wanted k (suc n) r a = elim (wanted-at r a k) [ Some b ↦ Forced k b | None ↦ first-wanted (suc k) n r a ]
 
 -- the first rule that forces a literal or has failed, on n variables
 abbrev pub scanned : ℕ → List LiteralSet → Assignment → Scan
 scanned n [] a = Quiet
-scanned n (r ∷ rs) a = cond (passes (restricted n r) a) (scanned n rs a) (first-loose 0 n (restricted n r) a)
+scanned n (r ∷ rs) a = cond (is-quiet (restricted n r) a) (scanned n rs a) (first-wanted 0 n (restricted n r) a)
 
 -- some rule is not met yet
 abbrev pub any-unmet : ℕ → List LiteralSet → Assignment → Bool
 any-unmet n [] a = false
-any-unmet n (r ∷ rs) a = not (touched (restricted n r) a) || any-unmet n rs a
+any-unmet n (r ∷ rs) a = not (is-met (restricted n r) a) || any-unmet n rs a
 
 -- a choice names an undecided variable; there is none only where every rule is met, or all n variables are decided
 abbrev pub Choice : ℕ → Assignment → Bool → Option ℕ → Type 0

@@ -2,7 +2,7 @@
 ghost use mathlib.Core.Path.{_≡_};
 ghost use mathlib.Core.Bool.{Bool, true, false, not, _||_};
 ghost use mathlib.Core.List.{map};
-ghost use Rattle.rules.specs.Rules.{as-rule, masked, touched, left-mask, several, passes, loose-at, scanned, any-unmet, Choice};
+ghost use Rattle.rules.specs.Rules.{as-rule, masked, is-met, undecided-in, several, is-quiet, wanted-at, scanned, any-unmet, Choice};
 use literals::LiteralSet;
 use search::Assignment;
 use search::mask_below;
@@ -36,7 +36,7 @@ fn rule_of(set: LiteralSet, as_bar: bool, mask: u64) -> LiteralSet
 
 // Whether a literal of the rule is met, or two of its literals are opposite.
 fn is_met(rule: LiteralSet, assignment: Assignment) -> bool
-    ensures met { λ r. ⌜ r ≡ touched rule assignment ⌝ }
+    ensures met { λ r. ⌜ r ≡ is-met rule assignment ⌝ }
 {
     (rule.closed & assignment.closed)
         | (rule.opened & assignment.opened)
@@ -46,7 +46,7 @@ fn is_met(rule: LiteralSet, assignment: Assignment) -> bool
 
 // The mask of the rule's undecided variables.
 fn undecided_in(rule: LiteralSet, assignment: Assignment) -> u64
-    ensures mask { λ r. ⌜ r ≡ left-mask rule assignment ⌝ }
+    ensures mask { λ r. ⌜ r ≡ undecided-in rule assignment ⌝ }
 {
     let variables = rule.closed | rule.opened;
     variables ^ (variables & (assignment.closed | assignment.opened))
@@ -61,14 +61,14 @@ fn has_several(mask: u64) -> bool
 
 // Whether a rule neither forces a literal nor has failed.
 fn is_quiet(rule: LiteralSet, assignment: Assignment) -> bool
-    ensures quiet { λ r. ⌜ r ≡ passes rule assignment ⌝ }
+    ensures quiet { λ r. ⌜ r ≡ is-quiet rule assignment ⌝ }
 {
     is_met(rule, assignment) || has_several(undecided_in(rule, assignment))
 }
 
 // The value that the rule wants of a variable, if that is undecided.
 fn wanted(rule: LiteralSet, assignment: Assignment, variable: u8) -> Option<bool>
-    ensures wanted { λ r. ⌜ r ≡ loose-at rule assignment variable ⌝ }
+    ensures wanted { λ r. ⌜ r ≡ wanted-at rule assignment variable ⌝ }
 {
     if assignment.has_decided(variable) {
         None
@@ -167,7 +167,7 @@ impl Tally {
     }
 
     fn note(&mut self, rule: LiteralSet, assignment: Assignment)
-        ensures unmet { λ _. ⌜ now (self .exit) .unmet ≡ (now (self .entry) .unmet || not (touched rule assignment)) ⌝ }
+        ensures unmet { λ _. ⌜ now (self .exit) .unmet ≡ (now (self .entry) .unmet || not (is-met rule assignment)) ⌝ }
     {
         if !is_met(rule, assignment) {
             self.unmet = true;

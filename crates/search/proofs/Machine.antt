@@ -9,10 +9,9 @@ use lib.ListN.{length, getD, set}
 use lib.Seq.{getD-set-same, getD-set-other}
 use Rattle.std.specs.declared.option.Option.the-variants.{Some, None}
 use Rattle.std.proofs.shelf.Tests.{and-from, cases-eq, cases-bool}
-use Rattle.settings.specs.Least.{some}
 use Rattle.search.specs.declared.Assignment.{Assignment}
 use Rattle.search.specs.declared.Found.the-variants.{Conflict, Forced, Met, Split}
-use Rattle.search.specs.Assignments.{agreeing, decided, both, Clear, clashing, put, filled, undecided}
+use Rattle.search.specs.Assignments.{agreeing, decided, Clear, clashing, put, filled, undecided}
 use Rattle.search.specs.declared.Branches.{Branches}
 use Rattle.search.specs.Search.{Narrows, Says, Answer, branches}
 use Rattle.search.proofs.Assignments.{with-put, agreeing-put, agreeing-less, clear-put, count-le, undecided-put, length-filled, agreeing-own, clash-none, clashing-some, clashing-none}

@@ -86,10 +86,12 @@ pub enum Found {
     Split(u8),
 }
 
-// What tells the search of the good settings, those that it looks for.
+// Whatever can look at an assignment. The search looks for a good setting.
 pub trait Look {
+    // the number of variables
     ghost size: { Self → ℕ };
 
+    // the good settings, as a test on settings of all variables
     ghost good: { Self → List Bool → Bool };
 
     // what the calls need
