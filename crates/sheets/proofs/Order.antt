@@ -19,7 +19,7 @@ use Rattle.laws.proofs.Named.{Named, named-append, named-cons, named-removed}
 use Rattle.solver.specs.declared.Solver.{Ghosts}
 use Rattle.sheets.specs.declared.Held.{Held}
 use Rattle.sheets.specs.declared.Sheet.{Sheet}
-use Rattle.sheets.specs.Sheets.{Page, page, held-literals, In-Order, assume-fault, with-held, without-held}
+use Rattle.sheets.specs.Sheets.{Sheet-Meaning, sheet-meaning, held-literals, In-Order, assume-fault, with-held, without-held}
 
 literals-removed : (hs : List Held) (i : ℕ) → held-literals (removed hs i) ≡ removed (held-literals hs) i
 literals-removed [] zero = refl
@@ -36,7 +36,7 @@ named-held n hs h own all =
     subst (Named n) (sym (map-append (λ y. y .literal) hs (h ∷ []))) (named-append n (held-literals hs) (h .literal ∷ []) all (named-cons n (h .literal) [] own refl))
 
 -- an accepted literal names a contact
-pub accepted-names : (p : Page) (l : ℤ) → assume-fault p l ≡ None → names (p .meaning .contacts) l ≡ true
+pub accepted-names : (p : Sheet-Meaning) (l : ℤ) → assume-fault p l ≡ None → names (p .meaning .contacts) l ≡ true
 accepted-names p l e = go (names (p .meaning .contacts) l) refl where
   go : (b : Bool) → names (p .meaning .contacts) l ≡ b → names (p .meaning .contacts) l ≡ true
   go true h = h
@@ -53,11 +53,11 @@ module _ {S : Type 0} (v : Ghosts S) (x y : Sheet S) (same : y .solver ≡ x .so
         named = subst (λ s. Named (v .size s) (held-literals (items (y .held)))) (sym same) (subst (λ t. Named (v .size (x .solver)) (held-literals t)) (sym e) h);
       }
 
-  pub in-order-held : (l : ℤ) → page v y ≡ with-held (page v x) l → assume-fault (page v x) l ≡ None → In-Order v y
+  pub in-order-held : (l : ℤ) → sheet-meaning v y ≡ with-held (sheet-meaning v x) l → assume-fault (sheet-meaning v x) l ≡ None → In-Order v y
   in-order-held l e fine =
       in-order-with (items (x .held) ++ record { literal = l; number = x .count + 1 } ∷ []) (ap (λ p. p .held) e)
-      (named-held (v .size (x .solver)) (items (x .held)) (record { literal = l; number = x .count + 1 }) (accepted-names (page v x) l fine) (ok .named))
+      (named-held (v .size (x .solver)) (items (x .held)) (record { literal = l; number = x .count + 1 }) (accepted-names (sheet-meaning v x) l fine) (ok .named))
 
-  pub in-order-without : (place : ℕ) → page v y ≡ without-held (page v x) place → In-Order v y
+  pub in-order-without : (place : ℕ) → sheet-meaning v y ≡ without-held (sheet-meaning v x) place → In-Order v y
   in-order-without place e =
       in-order-with (without (items (x .held)) place) (ap (λ p. p .held) e) (named-without (v .size (x .solver)) (items (x .held)) place (ok .named))

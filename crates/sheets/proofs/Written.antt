@@ -25,7 +25,7 @@ use Rattle.laws.proofs.Literals.{length-literals}
 use Rattle.laws.proofs.Trim.{length-chosen}
 use Rattle.laws.proofs.Why.{why-reasoned}
 use Rattle.solver.specs.Meaning.{stands, stands-with}
-use Rattle.sheets.specs.Sheets.{Page, held-literals}
+use Rattle.sheets.specs.Sheets.{Sheet-Meaning, held-literals}
 use Rattle.sheets.specs.Answers.{over, least-answer, why-answer, told, counted, written, Least-Law, Why-Law}
 
 -- what is written stands at the front
@@ -37,7 +37,7 @@ over-front ls out n long room =
 absurd-zero : _≡_ {A = ℕ} 0 1 → ⊥
 absurd-zero z = omega arith
 
-module _ (p : Page) (out : List ℤ) where
+module _ (p : Sheet-Meaning) (out : List ℤ) where
   abbrev held : List ℤ
   held = held-literals (p .held)
 

@@ -6,7 +6,7 @@ ghost use lib.ListN.{length};
 ghost use Rattle.tables.specs.Tables.{items};
 ghost use Rattle.solver.specs.Meaning.{add-fault, with-rule};
 ghost use Rattle.solver.specs.Over.{meaning-of};
-ghost use Rattle.sheets.specs.Sheets.{page, In-Order, New, opened, ruled, rule-answer, after-rule, assume-fault, next-ticket, assume-answer, with-held, after-assume, numbered-at, held-at, release-answer, without-held, after-release};
+ghost use Rattle.sheets.specs.Sheets.{sheet-meaning, In-Order, New, opened, ruled, rule-answer, after-rule, assume-fault, next-ticket, assume-answer, with-held, after-assume, numbered-at, held-at, release-answer, without-held, after-release};
 use super::Held;
 use super::Sheet;
 use super::Ticket;
@@ -61,7 +61,7 @@ impl<S: Solver> Sheet<S> {
     // A sheet over a solver, whose bars are cleared.
     pub fn open(mut solver: S, label: u16) -> Self
         requires ordered { ⌜ S·Solver .ordered solver ⌝ }
-        ensures opened { λ r. ⌜ page S·Solver r ≡ opened (meaning-of S·Solver solver) label ⌝ }
+        ensures opened { λ r. ⌜ sheet-meaning S·Solver r ≡ opened (meaning-of S·Solver solver) label ⌝ }
         ensures in_order { λ r. ⌜ In-Order S·Solver r ⌝ }
         ensures new { λ r. ⌜ (S·Solver .added solver ≡ [] → New S·Solver r) ⌝ }
     {
@@ -81,8 +81,8 @@ impl<S: Solver> Sheet<S> {
     // RULE: adds the rule.
     pub fn rule(&mut self, literals: &[i8]) -> Result<(), SheetFault>
         requires in_order { ⌜ In-Order S·Solver (now self) ⌝ }
-        ensures answer { λ r. ⌜ r ≡ rule-answer (page S·Solver (now (self .entry))) (now (literals .entry)) ⌝ }
-        ensures rule_added { λ _. ⌜ page S·Solver (now (self .exit)) ≡ after-rule (page S·Solver (now (self .entry))) (now (literals .entry)) ⌝ }
+        ensures answer { λ r. ⌜ r ≡ rule-answer (sheet-meaning S·Solver (now (self .entry))) (now (literals .entry)) ⌝ }
+        ensures rule_added { λ _. ⌜ sheet-meaning S·Solver (now (self .exit)) ≡ after-rule (sheet-meaning S·Solver (now (self .entry))) (now (literals .entry)) ⌝ }
         ensures in_order { λ _. ⌜ In-Order S·Solver (now (self .exit)) ⌝ }
     {
         add_rule(&mut self.solver, literals)
@@ -91,7 +91,7 @@ impl<S: Solver> Sheet<S> {
     // What ASSUME refuses a literal with.
     fn refuses(&self, literal: i8) -> Option<SheetFault>
         requires ordered { ⌜ S·Solver .ordered (now self .solver) ⌝ }
-        ensures fault { λ r. ⌜ r ≡ assume-fault (page S·Solver (now (self .entry))) literal ⌝ }
+        ensures fault { λ r. ⌜ r ≡ assume-fault (sheet-meaning S·Solver (now (self .entry))) literal ⌝ }
     {
         if !names_one_of(self.solver.contacts(), literal) {
             Some(SheetFault::Solver(SolverFault::BadLiteral(0)))
@@ -108,8 +108,8 @@ impl<S: Solver> Sheet<S> {
     fn hold(&mut self, literal: i8) -> Ticket
         requires room { ⌜ length (items (now self .held)) < 32 ⌝ }
         requires numbers_left { ⌜ now self .count < 65535 ⌝ }
-        ensures ticket { λ r. ⌜ r ≡ next-ticket (page S·Solver (now (self .entry))) ⌝ }
-        ensures held { λ _. ⌜ page S·Solver (now (self .exit)) ≡ with-held (page S·Solver (now (self .entry))) literal ⌝ }
+        ensures ticket { λ r. ⌜ r ≡ next-ticket (sheet-meaning S·Solver (now (self .entry))) ⌝ }
+        ensures held { λ _. ⌜ sheet-meaning S·Solver (now (self .exit)) ≡ with-held (sheet-meaning S·Solver (now (self .entry))) literal ⌝ }
         ensures solver_kept { λ _. ⌜ now (self .exit) .solver ≡ now (self .entry) .solver ⌝ }
     {
         let number = self.count + 1;
@@ -124,8 +124,8 @@ impl<S: Solver> Sheet<S> {
     // ASSUME: places a literal last among the held ones and issues a ticket for it.
     pub fn assume(&mut self, literal: i8) -> Result<Ticket, SheetFault>
         requires in_order { ⌜ In-Order S·Solver (now self) ⌝ }
-        ensures answer { λ r. ⌜ r ≡ assume-answer (page S·Solver (now (self .entry))) (assume-fault (page S·Solver (now (self .entry))) literal) ⌝ }
-        ensures held { λ _. ⌜ page S·Solver (now (self .exit)) ≡ after-assume (page S·Solver (now (self .entry))) literal (assume-fault (page S·Solver (now (self .entry))) literal) ⌝ }
+        ensures answer { λ r. ⌜ r ≡ assume-answer (sheet-meaning S·Solver (now (self .entry))) (assume-fault (sheet-meaning S·Solver (now (self .entry))) literal) ⌝ }
+        ensures held { λ _. ⌜ sheet-meaning S·Solver (now (self .exit)) ≡ after-assume (sheet-meaning S·Solver (now (self .entry))) literal (assume-fault (sheet-meaning S·Solver (now (self .entry))) literal) ⌝ }
         ensures in_order { λ _. ⌜ In-Order S·Solver (now (self .exit)) ⌝ }
     {
         match self.refuses(literal) {
@@ -136,7 +136,7 @@ impl<S: Solver> Sheet<S> {
 
     // The place of the assumption that a ticket was issued for, if it is held here.
     fn place_for(&self, ticket: &Ticket) -> Option<usize>
-        ensures place { λ r. ⌜ r ≡ held-at (page S·Solver (now (self .entry))) (now (ticket .entry)) ⌝ }
+        ensures place { λ r. ⌜ r ≡ held-at (sheet-meaning S·Solver (now (self .entry))) (now (ticket .entry)) ⌝ }
     {
         if ticket.label == self.label {
             place_of(self.held.as_slice(), ticket.number)
@@ -147,7 +147,7 @@ impl<S: Solver> Sheet<S> {
 
     // Takes the assumption at a place out.
     fn strike(&mut self, place: usize)
-        ensures struck { λ _. ⌜ page S·Solver (now (self .exit)) ≡ without-held (page S·Solver (now (self .entry))) place ⌝ }
+        ensures struck { λ _. ⌜ sheet-meaning S·Solver (now (self .exit)) ≡ without-held (sheet-meaning S·Solver (now (self .entry))) place ⌝ }
         ensures solver_kept { λ _. ⌜ now (self .exit) .solver ≡ now (self .entry) .solver ⌝ }
     {
         let _ = self.held.remove(place);
@@ -156,8 +156,8 @@ impl<S: Solver> Sheet<S> {
     // RELEASE: the assumption that the ticket was issued for leaves, and that spends the ticket; a ticket whose assumption is not held here is handed back.
     pub fn release(&mut self, ticket: Ticket) -> Result<(), Unreleased>
         requires in_order { ⌜ In-Order S·Solver (now self) ⌝ }
-        ensures answer { λ r. ⌜ r ≡ release-answer (held-at (page S·Solver (now (self .entry))) ticket) ticket ⌝ }
-        ensures released { λ _. ⌜ page S·Solver (now (self .exit)) ≡ after-release (page S·Solver (now (self .entry))) (held-at (page S·Solver (now (self .entry))) ticket) ⌝ }
+        ensures answer { λ r. ⌜ r ≡ release-answer (held-at (sheet-meaning S·Solver (now (self .entry))) ticket) ticket ⌝ }
+        ensures released { λ _. ⌜ sheet-meaning S·Solver (now (self .exit)) ≡ after-release (sheet-meaning S·Solver (now (self .entry))) (held-at (sheet-meaning S·Solver (now (self .entry))) ticket) ⌝ }
         ensures in_order { λ _. ⌜ In-Order S·Solver (now (self .exit)) ⌝ }
     {
         match self.place_for(&ticket) {

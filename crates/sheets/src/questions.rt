@@ -4,7 +4,7 @@ ghost use lib.ListN.{length};
 ghost use Rattle.std.specs.Options.{mapped};
 ghost use Rattle.tables.specs.Tables.{items};
 ghost use Rattle.queries.specs.Queries.{least-literals, why-literals};
-ghost use Rattle.sheets.specs.Sheets.{page, held-literals, In-Order};
+ghost use Rattle.sheets.specs.Sheets.{sheet-meaning, held-literals, In-Order};
 ghost use Rattle.sheets.specs.Answers.{over, least-answer, why-answer, told, counted, written, Least-Law, Why-Law};
 use super::Held;
 use super::Sheet;
@@ -39,8 +39,8 @@ impl<S: Solver> Sheet<S> {
     // The literals of the earliest allowed setting that agrees with all held assumptions.
     fn earliest_held(&mut self) -> Option<Table<i8, 32>>
         requires in_order { ⌜ In-Order S·Solver (now self) ⌝ }
-        ensures found { λ r. ⌜ mapped items r ≡ least-literals (page S·Solver (now (self .entry)) .meaning) (held-literals (page S·Solver (now (self .entry)) .held)) ⌝ }
-        ensures page_kept { λ _. ⌜ page S·Solver (now (self .exit)) ≡ page S·Solver (now (self .entry)) ⌝ }
+        ensures found { λ r. ⌜ mapped items r ≡ least-literals (sheet-meaning S·Solver (now (self .entry)) .meaning) (held-literals (sheet-meaning S·Solver (now (self .entry)) .held)) ⌝ }
+        ensures meaning_kept { λ _. ⌜ sheet-meaning S·Solver (now (self .exit)) ≡ sheet-meaning S·Solver (now (self .entry)) ⌝ }
         ensures in_order { λ _. ⌜ In-Order S·Solver (now (self .exit)) ⌝ }
     {
         let held = literals_of(&self.held);
@@ -53,8 +53,8 @@ impl<S: Solver> Sheet<S> {
     // The choice of smallest number of the held assumptions that is enough.
     fn reason_held(&mut self) -> Option<Table<i8, 32>>
         requires in_order { ⌜ In-Order S·Solver (now self) ⌝ }
-        ensures found { λ r. ⌜ mapped items r ≡ why-literals (page S·Solver (now (self .entry)) .meaning) (held-literals (page S·Solver (now (self .entry)) .held)) ⌝ }
-        ensures page_kept { λ _. ⌜ page S·Solver (now (self .exit)) ≡ page S·Solver (now (self .entry)) ⌝ }
+        ensures found { λ r. ⌜ mapped items r ≡ why-literals (sheet-meaning S·Solver (now (self .entry)) .meaning) (held-literals (sheet-meaning S·Solver (now (self .entry)) .held)) ⌝ }
+        ensures meaning_kept { λ _. ⌜ sheet-meaning S·Solver (now (self .exit)) ≡ sheet-meaning S·Solver (now (self .entry)) ⌝ }
         ensures in_order { λ _. ⌜ In-Order S·Solver (now (self .exit)) ⌝ }
     {
         let held = literals_of(&self.held);
@@ -66,9 +66,9 @@ impl<S: Solver> Sheet<S> {
 
     fn write_least(&mut self, out: &mut [i8]) -> Result<(), SheetFault>
         requires in_order { ⌜ In-Order S·Solver (now self) ⌝ }
-        ensures answer { λ r. ⌜ r ≡ told (least-answer (page S·Solver (now (self .entry))) (length (now (out .entry)))) ⌝ }
-        ensures buffer { λ _. ⌜ now (out .exit) ≡ written (least-answer (page S·Solver (now (self .entry))) (length (now (out .entry)))) (now (out .entry)) ⌝ }
-        ensures page_kept { λ _. ⌜ page S·Solver (now (self .exit)) ≡ page S·Solver (now (self .entry)) ⌝ }
+        ensures answer { λ r. ⌜ r ≡ told (least-answer (sheet-meaning S·Solver (now (self .entry))) (length (now (out .entry)))) ⌝ }
+        ensures buffer { λ _. ⌜ now (out .exit) ≡ written (least-answer (sheet-meaning S·Solver (now (self .entry))) (length (now (out .entry)))) (now (out .entry)) ⌝ }
+        ensures meaning_kept { λ _. ⌜ sheet-meaning S·Solver (now (self .exit)) ≡ sheet-meaning S·Solver (now (self .entry)) ⌝ }
         ensures in_order { λ _. ⌜ In-Order S·Solver (now (self .exit)) ⌝ }
     {
         if out.len() < self.solver.contacts() {
@@ -86,9 +86,9 @@ impl<S: Solver> Sheet<S> {
 
     fn write_why(&mut self, out: &mut [i8]) -> Result<usize, SheetFault>
         requires in_order { ⌜ In-Order S·Solver (now self) ⌝ }
-        ensures answer { λ r. ⌜ r ≡ counted (why-answer (page S·Solver (now (self .entry))) (length (now (out .entry)))) ⌝ }
-        ensures buffer { λ _. ⌜ now (out .exit) ≡ written (why-answer (page S·Solver (now (self .entry))) (length (now (out .entry)))) (now (out .entry)) ⌝ }
-        ensures page_kept { λ _. ⌜ page S·Solver (now (self .exit)) ≡ page S·Solver (now (self .entry)) ⌝ }
+        ensures answer { λ r. ⌜ r ≡ counted (why-answer (sheet-meaning S·Solver (now (self .entry))) (length (now (out .entry)))) ⌝ }
+        ensures buffer { λ _. ⌜ now (out .exit) ≡ written (why-answer (sheet-meaning S·Solver (now (self .entry))) (length (now (out .entry)))) (now (out .entry)) ⌝ }
+        ensures meaning_kept { λ _. ⌜ sheet-meaning S·Solver (now (self .exit)) ≡ sheet-meaning S·Solver (now (self .entry)) ⌝ }
         ensures in_order { λ _. ⌜ In-Order S·Solver (now (self .exit)) ⌝ }
     {
         if out.len() < self.held.len() {
@@ -107,10 +107,10 @@ impl<S: Solver> Sheet<S> {
     // LEAST: writes the earliest allowed setting that agrees with all held assumptions, as literals in contact order at the buffer's front.
     pub fn least(&mut self, out: &mut [i8]) -> Result<(), SheetFault>
         requires in_order { ⌜ In-Order S·Solver (now self) ⌝ }
-        ensures answer { λ r. ⌜ r ≡ told (least-answer (page S·Solver (now (self .entry))) (length (now (out .entry)))) ⌝ }
-        ensures buffer { λ _. ⌜ now (out .exit) ≡ written (least-answer (page S·Solver (now (self .entry))) (length (now (out .entry)))) (now (out .entry)) ⌝ }
-        ensures earliest { λ r. ⌜ Least-Law (page S·Solver (now (self .entry))) (now (out .exit)) r ⌝ }
-        ensures page_kept { λ _. ⌜ page S·Solver (now (self .exit)) ≡ page S·Solver (now (self .entry)) ⌝ }
+        ensures answer { λ r. ⌜ r ≡ told (least-answer (sheet-meaning S·Solver (now (self .entry))) (length (now (out .entry)))) ⌝ }
+        ensures buffer { λ _. ⌜ now (out .exit) ≡ written (least-answer (sheet-meaning S·Solver (now (self .entry))) (length (now (out .entry)))) (now (out .entry)) ⌝ }
+        ensures earliest { λ r. ⌜ Least-Law (sheet-meaning S·Solver (now (self .entry))) (now (out .exit)) r ⌝ }
+        ensures meaning_kept { λ _. ⌜ sheet-meaning S·Solver (now (self .exit)) ≡ sheet-meaning S·Solver (now (self .entry)) ⌝ }
         ensures in_order { λ _. ⌜ In-Order S·Solver (now (self .exit)) ⌝ }
     {
         self.write_least(out)
@@ -119,10 +119,10 @@ impl<S: Solver> Sheet<S> {
     // WHY: writes the enough choice of smallest number from the held assumptions, in held order at the buffer's front, and answers its size.
     pub fn why(&mut self, out: &mut [i8]) -> Result<usize, SheetFault>
         requires in_order { ⌜ In-Order S·Solver (now self) ⌝ }
-        ensures answer { λ r. ⌜ r ≡ counted (why-answer (page S·Solver (now (self .entry))) (length (now (out .entry)))) ⌝ }
-        ensures buffer { λ _. ⌜ now (out .exit) ≡ written (why-answer (page S·Solver (now (self .entry))) (length (now (out .entry)))) (now (out .entry)) ⌝ }
-        ensures smallest { λ r. ⌜ Why-Law (page S·Solver (now (self .entry))) (now (out .exit)) r ⌝ }
-        ensures page_kept { λ _. ⌜ page S·Solver (now (self .exit)) ≡ page S·Solver (now (self .entry)) ⌝ }
+        ensures answer { λ r. ⌜ r ≡ counted (why-answer (sheet-meaning S·Solver (now (self .entry))) (length (now (out .entry)))) ⌝ }
+        ensures buffer { λ _. ⌜ now (out .exit) ≡ written (why-answer (sheet-meaning S·Solver (now (self .entry))) (length (now (out .entry)))) (now (out .entry)) ⌝ }
+        ensures smallest { λ r. ⌜ Why-Law (sheet-meaning S·Solver (now (self .entry))) (now (out .exit)) r ⌝ }
+        ensures meaning_kept { λ _. ⌜ sheet-meaning S·Solver (now (self .exit)) ≡ sheet-meaning S·Solver (now (self .entry)) ⌝ }
         ensures in_order { λ _. ⌜ In-Order S·Solver (now (self .exit)) ⌝ }
     {
         self.write_why(out)

@@ -1,4 +1,4 @@
-use Rattle.sheets.specs.Sheets.{page}
+use Rattle.sheets.specs.Sheets.{sheet-meaning}
 use Rattle.sheets.proofs.Written.{least-written}
 use Rattle.sheets.proofs.Sheet.least.Needs as need
 
@@ -7,7 +7,7 @@ returns g c =
     record {
       answer = c .write-least .ensures .answer;
       buffer = c .write-least .ensures .buffer;
-      earliest = least-written (page (g .S·Solver) (c .args .self .now)) (c .args .out .now) (c .write-least .last .out) (c .write-least .result) (c .write-least .ensures .buffer) (c .write-least .ensures .answer);
-      page-kept = c .write-least .ensures .page-kept;
+      earliest = least-written (sheet-meaning (g .S·Solver) (c .args .self .now)) (c .args .out .now) (c .write-least .last .out) (c .write-least .result) (c .write-least .ensures .buffer) (c .write-least .ensures .answer);
+      meaning-kept = c .write-least .ensures .meaning-kept;
       in-order = c .write-least .ensures .in-order;
     }
