@@ -2,15 +2,15 @@
 use mathlib.Core.Path.{_≡_, refl, sym, _∙_, ap, subst}
 use mathlib.Core.Bool.{false, cond}
 use mathlib.Core.List.{List}
-use Prim.Native.Nat.{ℕ, _≤_, _<_}
+use Prim.Native.Nat.{ℕ, _≤_}
 use native.Mathlib.Omega.{arith}
 use lib.IntN.{ℤ}
-use lib.ListN.{length, getD}
+use lib.ListN.{length}
 use Rattle.std.specs.Options.{isSome}
 use Rattle.std.specs.declared.option.Option.{Option}
 use Rattle.std.specs.declared.option.Option.the-variants.{Some, None}
 use Rattle.std.specs.declared.result.Result.the-variants.{Ok}
-use Rattle.std.proofs.shelf.Counted.{length-map-counting, getD-map-counting}
+use Rattle.std.proofs.shelf.Counted.{length-map-counting}
 use Rattle.std.proofs.shelf.Lists.{length-take-le}
 use Rattle.tables.specs.declared.table.Table.{Table}
 use Rattle.tables.specs.Tables.{items}
@@ -28,9 +28,6 @@ use Rattle.queries.specs.Queries.{possible-with, Shown}
 
 pub length-reading : (n : ℕ) (s : Setting) → length (reading n s) ≡ n
 length-reading n s = length-map-counting (λ k. bit (s .closed) k) 0 n
-
-pub reading-at : (n : ℕ) (s : Setting) (k : ℕ) → k < n → getD (reading n s) k false ≡ bit (s .closed) k
-reading-at n s k lt = getD-map-counting (λ k. bit (s .closed) k) 0 n k k false lt (omega arith)
 
 -- a yes or a no tells whether some setting stands and agrees
 pub answer-tells : (m : Meaning) (ls : List ℤ) (o : Option Setting) → Answers m ls o → isSome o ≡ some (m .contacts) (stands-with m ls)

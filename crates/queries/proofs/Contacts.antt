@@ -11,7 +11,6 @@ use Rattle.std.specs.declared.option.Option.{Option}
 use Rattle.std.specs.declared.option.Option.the-variants.{Some, None}
 use Rattle.std.proofs.shelf.Lists.{append-assoc, append-nil, length-take-le, take-more, take-all}
 use Rattle.std.proofs.shelf.Tests.{both-ways, and-from}
-use Rattle.literals.specs.Bits.{bit}
 use Rattle.settings.specs.declared.Setting.{Setting}
 use Rattle.settings.specs.Readings.{reading}
 use Rattle.settings.specs.Settings.{agrees, fits, literal, literals}
@@ -22,7 +21,7 @@ use Rattle.laws.proofs.Named.{Named, named-append, named-cons, named-literals, 
 use Rattle.laws.proofs.Prefix.{next-open}
 use Rattle.solver.specs.Meaning.{Meaning, stands, stands-with}
 use Rattle.queries.specs.Queries.{possible-with, Shown, Ready, opened-next, least-literals}
-use Rattle.queries.proofs.Answers.{length-reading, reading-at, fault-none, possible-named}
+use Rattle.queries.proofs.Answers.{length-reading, fault-none, possible-named}
 
 abbrev pub earliest-of : Meaning → List ℤ → List Bool
 earliest-of m held = valueOr (least (m .contacts) (stands-with m held)) []
@@ -63,9 +62,9 @@ module _ (m : Meaning) (held : List ℤ) (named : Named (m .contacts) held) (one
         let front = subst (Named (m .contacts)) (sym (at .front)) (named-literals (m .contacts) 0 (take k (earliest-of m held)) (omega (arith, front-length k (omega arith)))) in
         named-append (m .contacts) (held ++ placed) (literal k false ∷ []) (named-append (m .contacts) held placed named front) (named-cons (m .contacts) (literal k false) [] (names-literal (m .contacts) k false lt) refl)
 
-    serves : bit (last .closed) k ≡ false → stands-with m (opened-next held placed k) (reading (m .contacts) last) ≡ true
+    serves : agrees (reading (m .contacts) last) (literal k false) ≡ true → stands-with m (opened-next held placed k) (reading (m .contacts) last) ≡ true
     unfolding opened-next
-    serves h = with-one m (held ++ placed) (literal k false) (reading (m .contacts) last) (at .shown) (ap not (reading-at (m .contacts) last k lt ∙ h))
+    serves h = with-one m (held ++ placed) (literal k false) (reading (m .contacts) last) (at .shown) h
 
     pub placed-ready : Ready m (opened-next held placed k) last k
     placed-ready = record { named = fault-none m (opened-next held placed k) asked-named; serves = serves }
@@ -83,12 +82,12 @@ module _ (m : Meaning) (held : List ℤ) (named : Named (m .contacts) held) (one
         ∙ next-open (m .contacts) (stands-with m held) s is-least k lt
 
     -- where contact k + 1 cannot be open, the setting found last has it closed
-    closed-last : possible-with m (opened-next held placed k) ≡ false → bit (last .closed) k ≡ true
-    closed-last none = go (bit (last .closed) k) refl where
-      go : (b : Bool) → bit (last .closed) k ≡ b → bit (last .closed) k ≡ true
+    closed-last : possible-with m (opened-next held placed k) ≡ false → agrees (reading (m .contacts) last) (literal k true) ≡ true
+    closed-last none = go (getD (reading (m .contacts) last) k false) refl where
+      go : (b : Bool) → getD (reading (m .contacts) last) k false ≡ b → getD (reading (m .contacts) last) k false ≡ true
       go true h = h
       go false h =
-          let found = some-from (m .contacts) (stands-with m (opened-next held placed k)) (reading (m .contacts) last) (length-reading (m .contacts) last) (serves h) in
+          let found = some-from (m .contacts) (stands-with m (opened-next held placed k)) (reading (m .contacts) last) (length-reading (m .contacts) last) (serves (ap not h)) in
           absurd (both-ways (possible-with m (opened-next held placed k)) none (possible-named m (opened-next held placed k) asked-named ∙ found))
 
     shown-next : (r : Option Setting) → isSome r ≡ possible-with m (opened-next held placed k) → Shown m (opened-next held placed k) r → stands-with m (held ++ (placed ++ literal k (not (isSome r)) ∷ [])) (reading (m .contacts) (valueOr r last)) ≡ true
@@ -96,7 +95,7 @@ module _ (m : Meaning) (held : List ℤ) (named : Named (m .contacts) held) (one
     shown-next (Some s) e h = subst (λ ls. stands-with m ls (reading (m .contacts) s) ≡ true) (append-assoc held placed (literal k false ∷ [])) h
     shown-next None e h =
         subst (λ ls. stands-with m ls (reading (m .contacts) last) ≡ true) (append-assoc held placed (literal k true ∷ []))
-        (with-one m (held ++ placed) (literal k true) (reading (m .contacts) last) (at .shown) (reading-at (m .contacts) last k lt ∙ closed-last (sym e)))
+        (with-one m (held ++ placed) (literal k true) (reading (m .contacts) last) (at .shown) (closed-last (sym e)))
 
     pub placed-next : (r : Option Setting) (next : List ℤ) → isSome r ≡ possible-with m (opened-next held placed k) → Shown m (opened-next held placed k) r → next ≡ placed ++ literal k (not (isSome r)) ∷ [] → Placed m held (k + 1) next (valueOr r last)
     placed-next r next e h is =

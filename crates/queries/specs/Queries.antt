@@ -10,12 +10,11 @@ use Rattle.std.specs.declared.option.Option.the-variants.{Some, None}
 use Rattle.std.specs.declared.result.Result.{Result}
 use Rattle.std.specs.declared.result.Result.the-variants.{Ok, Err}
 use Rattle.faults.specs.declared.SolverFault.{SolverFault}
-use Rattle.literals.specs.Bits.{bit}
 use Rattle.tables.specs.declared.table.Table.{Table}
 use Rattle.tables.specs.Tables.{items}
 use Rattle.settings.specs.declared.Setting.{Setting}
 use Rattle.settings.specs.Readings.{reading}
-use Rattle.settings.specs.Settings.{literal, literals}
+use Rattle.settings.specs.Settings.{agrees, literal, literals}
 use Rattle.settings.specs.Least.{least, some}
 use Rattle.laws.specs.Choices.{chosen, why}
 use Rattle.solver.specs.Meaning.{Meaning, stands, stands-with, literal-fault}
@@ -36,7 +35,7 @@ opened-next held placed k = (held ++ placed) ++ literal k false ∷ []
 -- each literal names a contact, and the setting found last stands and agrees with all of them where it has contact k + 1 open
 pub record Ready (m : Meaning) (ls : List ℤ) (last : Setting) (k : ℕ) : Type 0 where
   pub named : literal-fault m ls ≡ None
-  pub serves : bit (last .closed) k ≡ false → stands-with m ls (reading (m .contacts) last) ≡ true
+  pub serves : agrees (reading (m .contacts) last) (literal k false) ≡ true → stands-with m ls (reading (m .contacts) last) ≡ true
 
 -- the literals of the earliest standing setting that agrees with the held ones
 abbrev pub least-literals : Meaning → List ℤ → Option (List ℤ)

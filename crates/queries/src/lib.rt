@@ -6,7 +6,6 @@ ghost use Prim.Native.Nat.{_<_, _≤_, _+_};
 ghost use lib.ListN.{length};
 ghost use Rattle.std.specs.Options.{isSome};
 ghost use Rattle.tables.specs.Tables.{items};
-ghost use Rattle.literals.specs.Bits.{bit};
 ghost use Rattle.settings.specs.Settings.{literal};
 ghost use Rattle.settings.specs.Readings.{reading};
 ghost use Rattle.std.specs.declared.option.Option.the-variants.{Some, None};
@@ -18,14 +17,6 @@ use faults::SolverFault;
 use settings::Setting;
 use solver::Solver;
 use tables::table::Table;
-
-// Whether a setting has contact k + 1 closed.
-fn is_closed(setting: Setting, k: usize) -> bool
-    requires contact { ⌜ k < 32 ⌝ }
-    ensures closed { λ r. ⌜ r ≡ bit (setting .closed) k ⌝ }
-{
-    (setting.closed >> k as u32) % 2 == 1
-}
 
 // The literal that wants contact k + 1 closed, or open.
 fn literal_of(k: usize, closed: bool) -> i8
@@ -138,12 +129,11 @@ fn next_open<S: Solver>(
     ensures meaning_kept { λ _. ⌜ meaning-of S·Solver (now (solver .exit)) ≡ meaning-of S·Solver (now (solver .entry)) ⌝ }
     ensures ordered { λ _. ⌜ S·Solver .ordered (now (solver .exit)) ⌝ }
 {
-    if is_closed(last, k) {
-        let asked = wanting_open(held, placed, k);
-        witness(solver, asked.as_slice())
-    } else {
-        Some(last)
+    if last.agrees(solver.contacts(), literal_of(k, false)) {
+        return Some(last);
     }
+    let asked = wanting_open(held, placed, k);
+    witness(solver, asked.as_slice())
 }
 
 // Places the literal of contact k + 1 last: open where a standing setting agrees with that and with all that is held and placed, and else closed.
