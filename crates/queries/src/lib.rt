@@ -1,6 +1,6 @@
 // The earliest setting and the reason of smallest number, over any solver.
 ghost use mathlib.Core.Path.{_≡_};
-ghost use mathlib.Core.Bool.{not, cond, true, false};
+ghost use mathlib.Core.Bool.{not, cond, true};
 ghost use mathlib.Core.List.{[], _∷_, _++_};
 ghost use Prim.Native.Nat.{_<_, _≤_, _+_};
 ghost use lib.ListN.{length};

@@ -64,6 +64,7 @@ impl<S: Solver> Sheet<S> {
         }
     }
 
+    // LEAST by its definition: the buffer is asked for first, and then whether a setting is allowed.
     fn write_least(&mut self, out: &mut [i8]) -> Result<(), SheetFault>
         requires in_order { ⌜ In-Order S·Solver (now self) ⌝ }
         ensures answer { λ r. ⌜ r ≡ told (least-answer (sheet-meaning S·Solver (now (self .entry))) (length (now (out .entry)))) ⌝ }
@@ -84,6 +85,7 @@ impl<S: Solver> Sheet<S> {
         }
     }
 
+    // WHY by its definition: the buffer is asked for first, and then whether no setting is allowed.
     fn write_why(&mut self, out: &mut [i8]) -> Result<usize, SheetFault>
         requires in_order { ⌜ In-Order S·Solver (now self) ⌝ }
         ensures answer { λ r. ⌜ r ≡ counted (why-answer (sheet-meaning S·Solver (now (self .entry))) (length (now (out .entry)))) ⌝ }
