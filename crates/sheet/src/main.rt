@@ -5,7 +5,6 @@ use literals::LiteralSet;
 use std::error::AnyError;
 use std::io;
 use std::io::Read;
-use tables::table::Table;
 
 // A text has at most 60,000 bytes and 4,096 rules.
 const LONGEST_TEXT: u64 = 60_000;
@@ -19,11 +18,11 @@ fn print_refusal(rt: &impl Print, fault: SheetFault) -> io::Result<()> {
     println!(rt, "refused {number} {place}")
 }
 
-fn print_least(rt: &impl Print, literals: &Table<i8, 32>) -> io::Result<()> {
+fn print_least(rt: &impl Print, literals: &[i8]) -> io::Result<()> {
     let n = literals.len();
     println!(rt, "contacts {n}")?;
     print!(rt, "least")?;
-    for literal in literals.as_slice() {
+    for literal in literals {
         print!(rt, " {literal}")?;
     }
     println!(rt, "")
@@ -34,8 +33,9 @@ fn main(rt: LibcRuntime) -> Result<(), AnyError> {
     let mut text = Vec::new(rt.alloc());
     let _ = rt.stdin().take(LONGEST_TEXT + 1).read_to_end(&mut text)?;
     let mut store = vec![in rt.alloc(); LiteralSet::empty(); MOST_RULES]?;
-    match least_of_text(text.as_slice(), store.as_mut_slice()) {
-        Ok(literals) => print_least(&rt, &literals)?,
+    let mut literals = [0i8; 32];
+    match least_of_text(text.as_slice(), store.as_mut_slice(), &mut literals) {
+        Ok(n) => print_least(&rt, &literals[0..n.min(32)])?,
         Err(fault) => print_refusal(&rt, fault)?,
     }
     Ok(())
