@@ -7,20 +7,13 @@ use lib.ListN.{length, getD, drop}
 use Rattle.std.proofs.shelf.Lists.{at-drop-more, at-drop-all}
 use Rattle.literals.specs.declared.LiteralSet.{LiteralSet}
 use Rattle.literals.specs.Literals.{no-literals}
+use Rattle.literals.proofs.Booleans.{and-true, not-and, or-false}
 use Rattle.settings.specs.Settings.{meets, covers, all-met, any-covers}
 use Rattle.additions.specs.Additions.{any-against}
 
-or-false : (a b : Bool) → (a || b) ≡ ((a || false) || b)
-or-false true b = refl
-or-false false b = refl
-
-not-and : (a b : Bool) → not (a && b) ≡ (not (a && true) || not b)
-not-and true b = refl
-not-and false b = refl
-
 against-cons : (bars : Bool) (s : LiteralSet) (ss : List LiteralSet) (x : List Bool) → any-against bars (s ∷ ss) x ≡ (any-against bars (s ∷ []) x || any-against bars ss x)
-against-cons true s ss x = or-false (covers s x) (any-covers ss x)
-against-cons false s ss x = not-and (meets s x) (all-met ss x)
+against-cons true s ss x = ap (λ b. b || any-covers ss x) (sym (or-false (covers s x)))
+against-cons false s ss x = not-and (meets s x) (all-met ss x) ∙ ap (λ b. not b || not (all-met ss x)) (sym (and-true (meets s x)))
 
 -- what is left of the sets from i on, by what the test says of the one at i
 pub against-more : (bars : Bool) (ss : List LiteralSet) (x : List Bool) (i : ℕ) (b : Bool) → i < length ss → any-against bars (getD ss i no-literals ∷ []) x ≡ b → any-against bars (drop i ss) x ≡ (b || any-against bars (drop (i + 1) ss) x)

@@ -15,6 +15,7 @@ use Rattle.std.proofs.shelf.Tests.{ltb-true}
 use Rattle.literals.specs.Bits.{bit}
 use Rattle.literals.specs.Literals.{names, first-unnamed, set-of}
 use Rattle.literals.proofs.Bits.{bit-and, bit-ones}
+use Rattle.literals.proofs.Booleans.{and-true}
 use Rattle.additions.specs.Additions.{passes}
 use Rattle.settings.specs.Settings.{agrees, fits, covers, all-met}
 use Rattle.settings.specs.Least.{some}
@@ -56,10 +57,6 @@ take-front [] y n e = ap (λ k. take k y) {x = n} {y = 0} (omega arith)
 take-front (b ∷ x) y n e = ap (λ k. take k (b ∷ (x ++ y))) {x = n} {y = suc (length x)} (omega arith) ∙ ap (λ z. b ∷ z) (take-front x y (length x) refl)
 
 -- ---- some values of the inner variables
-
-and-true : (x : Bool) → (x && true) ≡ x
-and-true true = refl
-and-true false = refl
 
 and-false : (x : Bool) → (x && false) ≡ false
 and-false true = refl

@@ -10,6 +10,7 @@ use lib.Seq.{take-all}
 use Rattle.std.specs.declared.option.Option.the-variants.{None}
 use Rattle.std.proofs.shelf.Tests.{and-from, and-parts, or-parts, cases-bool}
 use Rattle.literals.specs.declared.LiteralSet.{LiteralSet}
+use Rattle.literals.proofs.Booleans.{not-not, not-or}
 use Rattle.settings.specs.Settings.{meets, covers, opposite, all-met, any-covers}
 use Rattle.settings.proofs.Sets.{bar-is-rule}
 use Rattle.search.specs.declared.Assignment.{Assignment}
@@ -59,18 +60,10 @@ all-met-rules : (rs : List LiteralSet) (x : List Bool) → all-met (map (as-rule
 all-met-rules [] x = refl
 all-met-rules (r ∷ rs) x = ap (λ b. meets r x && b) (all-met-rules rs x)
 
-not-or : (a b : Bool) → not (a || b) ≡ (not a && not b)
-not-or true b = refl
-not-or false b = refl
-
-not-not : (a : Bool) → a ≡ not (not a)
-not-not true = refl
-not-not false = refl
-
 all-met-bars : (bs : List LiteralSet) (x : List Bool) → all-met (map (as-rule true) bs) x ≡ not (any-covers bs x)
 all-met-bars [] x = refl
 all-met-bars (b ∷ bs) x =
-    ap₂ (λ p q. p && q) (not-not (meets (opposite b) x) ∙ ap not (sym (bar-is-rule b x))) (all-met-bars bs x) ∙ sym (not-or (covers b x) (any-covers bs x))
+    ap₂ (λ p q. p && q) (sym (not-not (meets (opposite b) x)) ∙ ap not (sym (bar-is-rule b x))) (all-met-bars bs x) ∙ sym (not-or (covers b x) (any-covers bs x))
 
 module _ (s : ClauseSolver) where
   -- what the looks over the three lists find, taken together

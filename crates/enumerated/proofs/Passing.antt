@@ -15,6 +15,7 @@ use Rattle.additions.specs.Additions.{meaning-with, passes}
 use Rattle.solver.specs.Meaning.{Meaning, Answers, stands-with}
 use Rattle.laws.proofs.Least.{none-from}
 use Rattle.enumerated.specs.Enumerated.{same-setting, listed, passes-with}
+use Rattle.literals.proofs.Booleans.{and-assoc}
 
 same-refl : (x : List Bool) → same-setting x x ≡ true
 same-refl [] = refl
@@ -53,10 +54,6 @@ found-listed n p (t ∷ ss) s e = go (p (reading n t)) refl e (found-listed n p 
   go false h e rest =
       let r = and-parts (listed n ss (reading n s)) (p (reading n s)) (rest e) in
       and-from _ _ (or-right _ _ (r .0)) (r .1)
-
-and-assoc : (a b c : Bool) → ((a && b) && c) ≡ (a && (b && c))
-and-assoc true b c = refl
-and-assoc false b c = refl
 
 pub first-answers : (n : ℕ) (a : Additions) (ss : List Setting) (ls : List ℤ) (r : Option Setting) → r ≡ first-passing n (passes-with a ls) ss → Answers (meaning-with n (listed n ss) a) ls r
 first-answers n a ss ls None e =

@@ -10,6 +10,7 @@ use Rattle.std.proofs.shelf.Lists.{append-assoc, append-nil, length-append, nil
 use Rattle.std.proofs.shelf.Tests.{and-parts, and-from, not-true}
 use Rattle.settings.specs.Settings.{agrees, fits, literal, literals}
 use Rattle.laws.specs.Choices.{chosen}
+use Rattle.literals.proofs.Booleans.{and-assoc}
 
 pub at-length : (front x : List Bool) (d : Bool) → getD (front ++ d ∷ x) (length front) false ≡ d
 at-length front x d = getD-at front d x false (length front) refl
@@ -71,17 +72,13 @@ literals-push j [] b = ap (λ k. literal k b ∷ []) (omega arith)
 literals-push j (c ∷ s) b = ap (λ t. literal j c ∷ t) (literals-push (suc j) s b ∙ ap (λ k. literals (suc j) s ++ literal k b ∷ []) (omega arith))
 
 -- to fit two lists of literals, and to fit fewer
-and-assoc : (a b c : Bool) → (a && (b && c)) ≡ ((a && b) && c)
-and-assoc true b c = refl
-and-assoc false b c = refl
-
 pub fits-append : (a b : List ℤ) (x : List Bool) → fits (a ++ b) x ≡ (fits a x && fits b x)
 fits-append [] b x = refl
-fits-append (l ∷ a) b x = ap (λ v. agrees x l && v) (fits-append a b x) ∙ and-assoc (agrees x l) (fits a x) (fits b x)
+fits-append (l ∷ a) b x = ap (λ v. agrees x l && v) (fits-append a b x) ∙ sym (and-assoc (agrees x l) (fits a x) (fits b x))
 
 -- an allowed setting that fits two lists of literals
 pub allowed-fits : (allowed : Bool) (a b : List ℤ) (x : List Bool) → (allowed && fits (a ++ b) x) ≡ ((allowed && fits a x) && fits b x)
-allowed-fits allowed a b x = ap (λ v. allowed && v) (fits-append a b x) ∙ and-assoc allowed (fits a x) (fits b x)
+allowed-fits allowed a b x = ap (λ v. allowed && v) (fits-append a b x) ∙ sym (and-assoc allowed (fits a x) (fits b x))
 
 pub fits-chosen : (c : List Bool) (ls : List ℤ) (x : List Bool) → fits ls x ≡ true → fits (chosen c ls) x ≡ true
 fits-chosen [] ls x h = refl

@@ -13,18 +13,14 @@ use Rattle.std.specs.declared.option.Option.the-variants.{Some, None}
 use Rattle.std.proofs.shelf.Tests.{lt-ltb}
 use Rattle.literals.specs.Literals.{names, first-unnamed}
 use Rattle.settings.specs.Settings.{literal, literals}
+use Rattle.settings.proofs.Sets.{named-parts as parts}
 
 module _ (n : ℕ) where
   abbrev pub Named : List ℤ → Type 0
   Named ls = first-unnamed n ls ≡ None
 
-  step : (b : Bool) (o : Option ℕ) → cond b (mapped suc o) (Some 0) ≡ None → (b ≡ true) × (o ≡ None)
-  step true None e = (refl, refl)
-  step true (Some i) e = absurd (let z : _≡_ {A = ℕ} 0 1 = cc in omega arith)
-  step false o e = absurd (let z : _≡_ {A = ℕ} 0 1 = cc in omega arith)
-
   pub named-parts : (l : ℤ) (ls : List ℤ) → Named (l ∷ ls) → (names n l ≡ true) × Named ls
-  named-parts l ls h = step (names n l) (first-unnamed n ls) h
+  named-parts = parts n
 
   pub named-cons : (l : ℤ) (ls : List ℤ) → names n l ≡ true → Named ls → Named (l ∷ ls)
   named-cons l ls h t = ap (λ v. cond v (mapped suc (first-unnamed n ls)) (Some 0)) h ∙ ap (mapped suc) t

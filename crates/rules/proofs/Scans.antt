@@ -11,6 +11,7 @@ use Rattle.std.proofs.shelf.Lists.{at-drop-more}
 use Rattle.std.proofs.shelf.Tests.{cond-true, cond-false}
 use Rattle.literals.specs.Literals.{no-literals}
 use Rattle.literals.specs.declared.LiteralSet.{LiteralSet}
+use Rattle.literals.proofs.Booleans.{or-assoc}
 use Rattle.search.specs.declared.Assignment.{Assignment}
 use Rattle.rules.specs.declared.Scan.the-variants.{Failed, Forced}
 use Rattle.search.specs.Assignments.{low-mask}
@@ -30,10 +31,6 @@ module _ (r : LiteralSet) (a : Assignment) (n k : ℕ) where
 
   pub wanted-none : n ≤ k → first-wanted k (n - k) r a ≡ Failed
   wanted-none le = ap (λ m. first-wanted k m r a) {x = n - k} {y = 0} (omega arith)
-
-or-assoc : (x y z : Bool) → ((x || y) || z) ≡ (x || (y || z))
-or-assoc true y z = refl
-or-assoc false y z = refl
 
 -- the rule at a place, as the look takes it
 module _ (n : ℕ) (a : Assignment) (bars : Bool) (ss : List LiteralSet) (i : ℕ) (lt : i < length ss) (mask : ℕ) (r : LiteralSet) (em : mask ≡ low-mask n) (er : r ≡ masked mask (as-rule bars (getD ss i no-literals))) where

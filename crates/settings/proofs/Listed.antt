@@ -19,6 +19,7 @@ use Rattle.literals.specs.declared.LiteralSet.{LiteralSet}
 use Rattle.literals.specs.Bits.{bit}
 use Rattle.literals.specs.Literals.{names, no-literals, inserted, with-literal, set-of, has}
 use Rattle.literals.proofs.Bits.{bit-and, bit-ones, bit-zero}
+use Rattle.literals.proofs.Booleans.{and-true}
 use Rattle.settings.specs.declared.Setting.{Setting}
 use Rattle.settings.specs.Settings.{literal, literals}
 use Rattle.settings.specs.Readings.{reading, setting-of}
@@ -79,10 +80,6 @@ closed-bit x k short lt =
     ∙ and-true (bit (set-of (literals 0 x) .closed) k)
     ∙ ap (bit (set-of (literals 0 x) .closed)) (sym at)
     ∙ decided x 0 k no-literals (omega arith) lt (bit-zero (0 + k))
-  where
-    and-true : (a : Bool) → (a && true) ≡ a
-    and-true true = refl
-    and-true false = refl
 
 pub setting-law : Setting-Law
 setting-law x short = sym (fill-by-all (λ k. bit (setting-of (literals 0 x) .closed) k) x (length x) false refl (λ k lt. sym (closed-bit x k short lt)))

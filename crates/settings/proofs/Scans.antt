@@ -9,6 +9,7 @@ use lib.ListN.{length, getD, drop}
 use Rattle.std.proofs.shelf.Lists.{at-drop-more, at-drop-all}
 use Rattle.literals.specs.declared.LiteralSet.{LiteralSet}
 use Rattle.literals.specs.Literals.{has}
+use Rattle.literals.proofs.Booleans.{not-and, not-not}
 use Rattle.settings.specs.Settings.{agrees, met, fits, any-agrees, meets-from, covers-from, any-held}
 
 same-true : (a : Bool) → a ≡ Bool·beq a true
@@ -19,17 +20,9 @@ same-false : (a : Bool) → a ≡ not (Bool·beq a false)
 same-false true = refl
 same-false false = refl
 
-pub not-and : (a b : Bool) → not (a && b) ≡ (not a || not b)
-not-and true b = refl
-not-and false b = refl
-
 not-same-false : (a : Bool) → not a ≡ Bool·beq a false
 not-same-false true = refl
 not-same-false false = refl
-
-not-not : (a : Bool) → not (not a) ≡ a
-not-not true = refl
-not-not false = refl
 
 agrees-cons : (wanted : Bool) (l : ℤ) (ls : List ℤ) (x : List Bool) → any-agrees wanted (l ∷ ls) x ≡ (Bool·beq (agrees x l) wanted || any-agrees wanted ls x)
 agrees-cons true l ls x = ap (λ b. b || met ls x) (same-true (agrees x l))

@@ -17,6 +17,7 @@ use Rattle.literals.specs.declared.LiteralSet.{LiteralSet}
 use Rattle.literals.specs.Bits.{bit}
 use Rattle.literals.specs.Literals.{names, first-unnamed, no-literals, inserted, with-literal, set-of, has}
 use Rattle.literals.proofs.Bits.{bit-zero, bit-more}
+use Rattle.literals.proofs.Booleans.{and-assoc, and-true, not-not, not-or, or-assoc, or-false}
 use Rattle.settings.specs.Settings.{agrees, met, fits, literal, meets-from, covers-from, meets, covers, opposite}
 use Rattle.settings.specs.Laws.{Said-Alike, Sets-Law}
 
@@ -69,10 +70,6 @@ unfolding stands-as
 gone j i b [] lt = refl
 gone j i b (c ∷ x) lt = ap₂ (λ p q. (p && same b c) || q) (ne-eqb j i (omega arith)) (gone (suc j) i b x (omega arith))
 
-or-false : (a : Bool) → (a || false) ≡ a
-or-false true = refl
-or-false false = refl
-
 stands-at : (j m : ℕ) (b : Bool) (x : List Bool) → m < length x → stands-as j (j + m) b x ≡ same b (getD x m false)
 unfolding stands-as
 stands-at j m b [] lt = absurd (omega arith)
@@ -104,10 +101,6 @@ has-opposite : (s : LiteralSet) (k : ℕ) (b : Bool) → has (opposite s) k b �
 has-opposite s k true = refl
 has-opposite s k false = refl
 
-not-or : (a b : Bool) → not (a || b) ≡ (not a && not b)
-not-or true b = refl
-not-or false b = refl
-
 covers-opposite : (j : ℕ) (s : LiteralSet) (x : List Bool) → covers-from j s x ≡ not (meets-from j (opposite s) x)
 covers-opposite j s [] = refl
 covers-opposite j s (b ∷ x) =
@@ -117,10 +110,6 @@ covers-opposite j s (b ∷ x) =
 -- a setting is covered by no bar exactly where it meets the rule of the bar's opposite literals
 pub bar-is-rule : (s : LiteralSet) (x : List Bool) → covers s x ≡ not (meets (opposite s) x)
 bar-is-rule s x = covers-opposite 0 s x
-
-not-not : (a : Bool) → not (not a) ≡ a
-not-not true = refl
-not-not false = refl
 
 covers-one : (s : LiteralSet) (i : ℕ) (b : Bool) (x : List Bool) → i < length x → covers (inserted s (literal i b)) x ≡ (covers s x && agrees x (literal i b))
 covers-one s i true x lt =
@@ -137,14 +126,6 @@ covers-more s (negsuc k) x h = covers-one s k false x (ltb-true k (length x) h)
 
 -- ---- all the literals of a list
 
-or-assoc : (a b c : Bool) → ((a || b) || c) ≡ (a || (b || c))
-or-assoc true b c = refl
-or-assoc false b c = refl
-
-and-assoc : (a b c : Bool) → ((a && b) && c) ≡ (a && (b && c))
-and-assoc true b c = refl
-and-assoc false b c = refl
-
 module _ (x : List Bool) (short : length x ≤ 64) where
   with-named : (s : LiteralSet) (l : ℤ) → names (length x) l ≡ true → with-literal s l ≡ inserted s l
   with-named s l h = cond-true (names 64 l) (inserted s l) s (names-more (length x) 64 l short h)
@@ -158,10 +139,7 @@ module _ (x : List Bool) (short : length x ≤ 64) where
       ∙ or-assoc (meets s x) (agrees x l) (met ls x)
 
   covers-all : (s : LiteralSet) (ls : List ℤ) → first-unnamed (length x) ls ≡ None → covers (folded with-literal s ls) x ≡ (covers s x && fits ls x)
-  covers-all s [] h = sym (and-true (covers s x)) where
-    and-true : (a : Bool) → (a && true) ≡ a
-    and-true true = refl
-    and-true false = refl
+  covers-all s [] h = sym (and-true (covers s x))
   covers-all s (l ∷ ls) h =
       let named = named-parts (length x) l ls h in
       covers-all (with-literal s l) ls (named .1)

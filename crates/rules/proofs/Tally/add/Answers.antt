@@ -5,10 +5,7 @@ use Rattle.std.proofs.shelf.Lists.{at-drop-all}
 use Rattle.rules.specs.Rules.{as-rule, any-unmet}
 use Rattle.rules.proofs.Scans.{unmet-next}
 use Rattle.rules.proofs.Tally.add.Needs as need
-
-or-false : (x : Bool) → (x || false) ≡ x
-or-false true = refl
-or-false false = refl
+use Rattle.literals.proofs.Booleans.{or-false}
 
 pub loop-set-again : need.loop-set-again
 loop-set-again c =
