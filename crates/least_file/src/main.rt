@@ -1,0 +1,99 @@
+// Reads a clause text from a file, takes its first N variables for contacts, and prints the least setting that it allows. For timing, it answers REPEAT times before it prints.
+use clauses::ClauseSolver;
+use clauses::ClauseSolves;
+use clauses::counts::VariableCounts;
+use dimacs_load::load;
+use faults::SheetFault;
+use literals::LiteralSet;
+use sheets::Sheet;
+use std::env;
+use std::error::AnyError;
+use std::fs;
+use std::io;
+use witnesses::CacheSolves;
+use witnesses::WitnessCache;
+
+// A text has at most 4,096 rules.
+const MOST_RULES: usize = 4_096;
+
+// Writes the literals of the earliest setting of n contacts that some values of the other variables meet every rule with.
+fn least_of_rules(
+    rules: &[LiteralSet],
+    variables: usize,
+    n: usize,
+    out: &mut [i8],
+) -> Result<(), SheetFault> {
+    let counts = VariableCounts::new(variables, n)?;
+    let solver = WitnessCache::new(ClauseSolver::new(rules, counts));
+    let mut sheet = Sheet::open(solver, 1);
+    sheet.least(out)
+}
+
+// Loads the text into the store, and writes the literals of the earliest setting of its first n variables that it allows.
+fn least_of_text(
+    text: &[u8],
+    n: usize,
+    store: &mut [LiteralSet],
+    out: &mut [i8],
+) -> Result<(), SheetFault> {
+    let size = load(text, n, store)?;
+    let count = size.count;
+    least_of_rules(&store[0..count], size.vars, n, out)
+}
+
+// The same, that many times and at least once.
+fn least_repeated(
+    repeat: u32,
+    text: &[u8],
+    n: usize,
+    store: &mut [LiteralSet],
+    out: &mut [i8],
+) -> Result<(), SheetFault> {
+    for _ in 1..repeat {
+        let _ = least_of_text(text, n, store, out);
+    }
+    least_of_text(text, n, store, out)
+}
+
+fn print_refusal(rt: &impl Print, fault: SheetFault) -> io::Result<()> {
+    let refusal = fault.refusal();
+    let number = refusal.number;
+    let place = refusal.place;
+    println!(rt, "refused {number} {place}")
+}
+
+fn print_least(rt: &impl Print, literals: &[i8]) -> io::Result<()> {
+    let n = literals.len();
+    println!(rt, "contacts {n}")?;
+    print!(rt, "least")?;
+    for literal in literals {
+        print!(rt, " {literal}")?;
+    }
+    println!(rt, "")
+}
+
+fn main(rt: LibcRuntime) -> Result<(), AnyError> {
+    let mut args = env::args(&rt)?.skip(1);
+    let (Some(path), Some(contacts)) = (args.next(), args.next()) else {
+        return Err("usage: least_file FILE N [REPEAT]".into());
+    };
+    let n = contacts.parse::<usize>()?;
+    let repeat = match args.next() {
+        Some(count) => count.parse::<u32>()?,
+        None => 1,
+    };
+    let text = fs::read(&rt, path.as_str())?;
+    let mut store = vec![in rt.alloc(); LiteralSet::empty(); MOST_RULES]?;
+    let mut literals = [0i8; 32];
+    match least_repeated(
+        repeat,
+        text.as_slice(),
+        n,
+        store.as_mut_slice(),
+        &mut literals,
+    ) {
+        Ok(()) => print_least(&rt, &literals[0..n.min(32)])?,
+        Err(fault) => print_refusal(&rt, fault)?,
+    }
+    Ok(())
+}
