@@ -1,2 +1,2 @@
-mod Rules
-mod Loaded
+pub mod Rules
+pub mod Loaded

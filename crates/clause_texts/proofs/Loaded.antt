@@ -49,14 +49,15 @@ loading-refused records size (Err e) f h = ap Err (let same : f ≡ Store (Text 
 loading-refused records size (Ok c) f h = ap (λ l. once-loaded l (found size (c .vars) (least (c .vars) (text-allows 0 (c .rules))))) h
 
 -- a text that was loaded: the room suffices, the number of contacts suits, and it is the text's own size that is told
-loaded-is : (records : ℕ) (c : Cnf) (size : Size) → Ok size ≡ loaded (c .vars) records (Ok c) → (fit (c .vars) (c .vars) ≡ true) × (size ≡ size-of c)
-loaded-is records c size = go (fit (c .vars) (c .vars)) (leb (length (c .rules)) records) where
+pub loaded-is : (n records : ℕ) (c : Cnf) (size : Size) → Ok size ≡ loaded n records (Ok c) → (fit n (c .vars) ≡ true) × (size ≡ size-of c)
+loaded-is n records c size = go (fit n (c .vars)) (leb (length (c .rules)) records) where
   go : (a b : Bool) → Ok size ≡ cond a (cond b (Ok (size-of c)) (Err (Store (Short records)))) (Err WrongContacts) → (a ≡ true) × (size ≡ size-of c)
   go true true e = (refl, cc)
   go true false e = absurd (let y : _≡_ {A = Bool} false true = cc in false≢true y)
   go false b e = absurd (let y : _≡_ {A = Bool} false true = cc in false≢true y)
 
-front-is : (sets s : List LiteralSet) (k : ℕ) → k ≡ length sets → take (k - 0) (sets ++ drop (length sets) s) ≡ sets
+-- what was laid into a store lies at its front
+pub front-is : (sets s : List LiteralSet) (k : ℕ) → k ≡ length sets → take (k - 0) (sets ++ drop (length sets) s) ≡ sets
 front-is sets s k e = ap (λ j. take j (sets ++ drop (length sets) s)) {x = k - 0} {y = length sets} (omega arith) ∙ take-append-le (length sets) sets (drop (length sets) s) (le-refl _) ∙ take-all (length sets) sets (le-refl _)
 
 pub loaded-answer : (records room : ℕ) (text : List ℕ) (size : Size) (s rules : List LiteralSet) → Ok size ≡ loaded-whole records (read-cnf text) → rules ≡ take (size .count - 0) (laid (sets (read-cnf text)) s) → (rules-least (size .vars) rules room ≡ text-least records room (read-cnf text)) × (size .vars ≡ variables-of (read-cnf text))
@@ -65,7 +66,7 @@ loaded-answer records room text size s rules = go (read-cnf text) refl where
   go (Err e) was taken lies = absurd (let y : _≡_ {A = Bool} false true = cc in false≢true y)
   go (Ok c) was taken lies =
       let w = reads-just text .sound c was .well-formed in
-      let l = loaded-is records c size taken in
+      let l = loaded-is (c .vars) records c size taken in
       let n : size .vars ≡ c .vars = ap (λ y. y .vars) (l .1) in
       let count : size .count ≡ length (map set-of (c .rules)) = ap (λ y. y .count) (l .1) ∙ sym (length-map (c .rules) set-of) in
       let held : rules ≡ map set-of (c .rules) = lies ∙ front-is (map set-of (c .rules)) s (size .count) count in

@@ -1,4 +1,9 @@
 // Reads a clause text from a file, takes its first N variables for contacts, and prints the least setting that it allows. For timing, it answers REPEAT times before it prints.
+ghost use mathlib.Core.Path.{_≡_};
+ghost use lib.ListN.{length};
+ghost use Rattle.dimacs.specs.Cnf.{read-cnf};
+ghost use Rattle.least_file.specs.Answer.{first-least, sheet-least};
+ghost use Rattle.sheets.specs.Answers.{told, written};
 use clauses::ClauseSolver;
 use clauses::ClauseSolves;
 use clauses::counts::VariableCounts;
@@ -22,10 +27,14 @@ fn least_of_rules(
     variables: usize,
     n: usize,
     out: &mut [i8],
-) -> Result<(), SheetFault> {
+) -> Result<(), SheetFault>
+    ensures answer { λ r. ⌜ r ≡ told (sheet-least variables n (now (rules .entry)) (length (now (out .entry)))) ⌝ }
+    ensures buffer { λ _. ⌜ now (out .exit) ≡ written (sheet-least variables n (now (rules .entry)) (length (now (out .entry)))) (now (out .entry)) ⌝ }
+{
     let counts = VariableCounts::new(variables, n)?;
-    let solver = WitnessCache::new(ClauseSolver::new(rules, counts));
-    let mut sheet = Sheet::open(solver, 1);
+    let solver = ClauseSolver::new(rules, counts);
+    let cache = WitnessCache::new(solver);
+    let mut sheet = Sheet::open(cache, 1);
     sheet.least(out)
 }
 
@@ -35,7 +44,10 @@ fn least_of_text(
     n: usize,
     store: &mut [LiteralSet],
     out: &mut [i8],
-) -> Result<(), SheetFault> {
+) -> Result<(), SheetFault>
+    ensures answer { λ r. ⌜ r ≡ told (first-least n (length (now (store .entry))) (length (now (out .entry))) (read-cnf (now (text .entry)))) ⌝ }
+    ensures buffer { λ _. ⌜ now (out .exit) ≡ written (first-least n (length (now (store .entry))) (length (now (out .entry))) (read-cnf (now (text .entry)))) (now (out .entry)) ⌝ }
+{
     let size = load(text, n, store)?;
     let count = size.count;
     least_of_rules(&store[0..count], size.vars, n, out)
