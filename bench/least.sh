@@ -1,10 +1,11 @@
 #!/usr/bin/env bash
 # Times LEAST over clause texts beside picosat and minisat, whole process against whole process, in one run: bench/least.sh [ROUNDS]
-# Prints a line for each text with the median of ROUNDS runs (21 unless given) of each program, then the time of one load of a long text,
-# then each goal with the worst that was measured. Ends with status 1 if a program disagrees on whether a text is satisfiable.
+# Prints a line for each text: the median of ROUNDS runs (101 unless given) of each program, the ratio of ours to the quicker peer's, and the same
+# ratio of the quickest runs, which other work on the machine moves less. Then each goal, by the medians, with the worst that was measured, and
+# the time of one load of a long text. Ends with status 1 if a program disagrees on whether a text is satisfiable.
 set -euo pipefail
 cd "$(dirname "$0")/.."
-rounds=${1:-21}
+rounds=${1:-101}
 loads=500
 export LC_ALL=C
 
@@ -48,10 +49,22 @@ run() {
 
 median() { sort -n "$1" | awk '{ all[NR] = $1 } END { print all[int((NR + 1) / 2)] }'; }
 
+least() { sort -n "$1" | sed -n 1p; }
+
+# Ours over the quicker peer's, each program's runs summed up by the given function.
+ratio() {
+    local summary=$1 peer quicker= micros
+    for peer in "${peers[@]}"; do
+        micros=$("$summary" "$work/times.$peer")
+        if [ -z "$quicker" ] || [ "$micros" -lt "$quicker" ]; then quicker=$micros; fi
+    done
+    if [ -z "$quicker" ]; then echo -; else awk "BEGIN { printf \"%.2f\", $("$summary" "$work/times.least_file") / $quicker }"; fi
+}
+
 disagreements=0
-format='%-11s %-20s %-4s %9s %9s %9s %7s\n'
+format='%-11s %-20s %-4s %9s %9s %9s %7s %9s\n'
 # shellcheck disable=SC2059
-printf "$format" kind text sat ours/ms picosat minisat ratio
+printf "$format" kind text sat ours/ms picosat minisat ratio quickest
 : > "$work/ratios"
 while read -r kind name contacts; do
     [ "$kind" != reading ] || continue
@@ -71,20 +84,13 @@ while read -r kind name contacts; do
         done
     done
     declare -A time=([picosat]=- [minisat]=-)
-    quicker=
     for program in least_file "${peers[@]}"; do
-        micros=$(median "$work/times.$program")
-        time[$program]=$(awk "BEGIN { printf \"%.2f\", $micros / 1000 }")
-        if [ "$program" = least_file ]; then own=$micros
-        elif [ -z "$quicker" ] || [ "$micros" -lt "$quicker" ]; then quicker=$micros; fi
+        time[$program]=$(awk "BEGIN { printf \"%.2f\", $(median "$work/times.$program") / 1000 }")
     done
-    ratio=-
-    if [ -n "$quicker" ]; then
-        ratio=$(awk "BEGIN { printf \"%.2f\", $own / $quicker }")
-        echo "$kind $ratio" >> "$work/ratios"
-    fi
+    medians=$(ratio median)
+    [ "$medians" = - ] || echo "$kind $medians" >> "$work/ratios"
     # shellcheck disable=SC2059
-    printf "$format" "$kind" "$name" "$ours" "${time[least_file]}" "${time[picosat]}" "${time[minisat]}" "$ratio"
+    printf "$format" "$kind" "$name" "$ours" "${time[least_file]}" "${time[picosat]}" "${time[minisat]}" "$medians" "$(ratio least)"
 done < "$work/index"
 
 # One load: the difference between many answers and one, over a text that answers as soon as it is read.

@@ -13,6 +13,7 @@ use literals::LiteralSet;
 use sheets::Sheet;
 use std::env;
 use std::error::AnyError;
+use std::fmt::Write;
 use std::fs;
 use std::io;
 use witnesses::CacheSolves;
@@ -74,14 +75,15 @@ fn print_refusal(rt: &impl Print, fault: SheetFault) -> io::Result<()> {
     println!(rt, "refused {number} {place}")
 }
 
-fn print_least(rt: &impl Print, literals: &[i8]) -> io::Result<()> {
+// The whole answer goes out in one write, since the program is there to be timed.
+fn print_least(rt: &(impl Print + Alloc), literals: &[i8]) -> Result<(), AnyError> {
     let n = literals.len();
-    println!(rt, "contacts {n}")?;
-    print!(rt, "least")?;
+    let mut listed = String::new(rt.alloc());
     for literal in literals {
-        print!(rt, " {literal}")?;
+        write!(listed, " {literal}")?;
     }
-    println!(rt, "")
+    println!(rt, "contacts {n}\nleast{listed}")?;
+    Ok(())
 }
 
 fn main(rt: LibcRuntime) -> Result<(), AnyError> {
