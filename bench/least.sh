@@ -33,7 +33,7 @@ run() {
     end=$EPOCHREALTIME
     took=$((${end/./} - ${start/./}))
     if [ "$program" = least_file ]; then
-        { read -r verdict && read -r rest || true; } < "$work/out"
+        read -r verdict < "$work/out" || verdict="status $status"
         case $status/$verdict in
             "0/contacts $contacts") verdict=yes ;;
             "0/refused 11 0") verdict=no ;;
