@@ -36,13 +36,6 @@ pub sets-met : (rules : List (List ℤ)) (x : List Bool) → length x ≤ 64 →
 sets-met [] x short named = refl
 sets-met (r ∷ rules) x short named = ap₂ (λ a b. a && b) (sets-law r x short (all-named (length x) r (named .0)) .rule) (sets-met rules x short (named .1))
 
-some-zero : (p : List Bool → Bool) → some 0 p ≡ p []
-unfolding least
-some-zero p = go (p []) where
-  go : (b : Bool) → isSome {T = List Bool} (cond b (Some []) None) ≡ b
-  go true = refl
-  go false = refl
-
 pub text-law : Text-Law
 text-law text c read n le x sized =
     let w = reads-just text .sound c read .well-formed in
@@ -50,19 +43,3 @@ text-law text c read n le x sized =
     (λ y long.
     let all : c .vars ≡ length (x ++ y) = omega (arith, length-append x y) in
     sets-met (c .rules) (x ++ y) (omega (arith, w .few-variables)) (subst (λ k. All-Name k (c .rules)) all (w .named)))
-
--- a solver over the rules with nothing added and nothing asked, with all variables as contacts
-stands-plain : (n : ℕ) (rules : List LiteralSet) (x : List Bool) → stands-with (loaded-meaning n 0 rules) [] x ≡ all-met rules x
-stands-plain n rules x = trues (some 0 (λ y. all-met rules (x ++ y))) ∙ some-zero (λ y. all-met rules (x ++ y)) ∙ ap (all-met rules) (append-nil x)
-  where
-    trues : (a : Bool) → ((a && true) && true) ≡ a
-    trues true = refl
-    trues false = refl
-
-pub least-plain : (n : ℕ) (rules : List LiteralSet) → least n (stands-with (loaded-meaning n 0 rules) []) ≡ least n (all-met rules)
-least-plain n rules = least-alike n (stands-with (loaded-meaning n 0 rules) []) (all-met rules) (λ x l. stands-plain n rules x)
-
-pub least-written : (n : ℕ) (rules : List (List ℤ)) → n ≤ 64 → All-Name n rules → least n (all-met (map set-of rules)) ≡ least n (text-allows 0 rules)
-least-written n rules few named =
-    least-alike n (all-met (map set-of rules)) (text-allows 0 rules)
-    (λ x l. sets-met rules x (omega arith) (subst (λ k. All-Name k rules) (sym l) named) ∙ ap (every-met rules) (sym (append-nil x)) ∙ sym (some-zero (λ y. every-met rules (x ++ y))))

@@ -2,54 +2,65 @@
 ghost use mathlib.Core.Path.{_≡_};
 ghost use lib.ListN.{length};
 ghost use Rattle.dimacs.specs.Cnf.{read-cnf};
-ghost use Rattle.dimacs_load.specs.Loads.{store-after};
 ghost use Rattle.clause_texts.specs.Allowed.{Text-Law};
-ghost use Rattle.clause_texts.specs.Answer.{loaded-whole, text-least, rules-least, variables-of, told-size};
+ghost use Rattle.clause_texts.specs.Answer.{text-least, sheet-least, whole-least, variables-of, told-size};
 ghost use Rattle.sheets.specs.Answers.{told, written};
 use clauses::ClauseSolver;
 use clauses::ClauseSolves;
 use clauses::counts::VariableCounts;
-use dimacs_load::Size;
 use dimacs_load::load;
 use dimacs_load::measure;
 use faults::SheetFault;
 use faults::SheetFaultFromStore;
 use literals::LiteralSet;
 use sheets::Sheet;
+use witnesses::CacheSolves;
+use witnesses::WitnessCache;
 
-// Writes the literals of the earliest setting of n contacts that meets every rule.
-fn least_of_rules(rules: &[LiteralSet], n: usize, out: &mut [i8]) -> Result<(), SheetFault>
-    ensures answer { λ r. ⌜ r ≡ told (rules-least n (now (rules .entry)) (length (now (out .entry)))) ⌝ }
-    ensures buffer { λ _. ⌜ now (out .exit) ≡ written (rules-least n (now (rules .entry)) (length (now (out .entry)))) (now (out .entry)) ⌝ }
+// Writes the literals of the earliest setting of n contacts that some values of the other variables meet every rule with.
+fn least_of_rules(
+    rules: &[LiteralSet],
+    variables: usize,
+    n: usize,
+    out: &mut [i8],
+) -> Result<(), SheetFault>
+    ensures answer { λ r. ⌜ r ≡ told (sheet-least variables n (now (rules .entry)) (length (now (out .entry)))) ⌝ }
+    ensures buffer { λ _. ⌜ now (out .exit) ≡ written (sheet-least variables n (now (rules .entry)) (length (now (out .entry)))) (now (out .entry)) ⌝ }
 {
-    let counts = VariableCounts::new(n, n)?;
+    let counts = VariableCounts::new(variables, n)?;
     let solver = ClauseSolver::new(rules, counts);
-    let mut sheet = Sheet::open(solver, 1);
+    let cache = WitnessCache::new(solver);
+    let mut sheet = Sheet::open(cache, 1);
     sheet.least(out)
 }
 
-// Loads the text with each of its variables as a contact.
-fn load_whole(text: &[u8], store: &mut [LiteralSet]) -> Result<Size, SheetFault>
-    ensures answer { λ r. ⌜ r ≡ loaded-whole (length (now (store .entry))) (read-cnf (now (text .entry))) ⌝ }
-    ensures store { λ r. ⌜ now (store .exit) ≡ store-after r (read-cnf (now (text .entry))) (now (store .entry)) ⌝ }
+// Loads the text into the store, and writes the literals of the earliest setting of its first n variables that it allows.
+pub fn least_of_text(
+    text: &[u8],
+    n: usize,
+    store: &mut [LiteralSet],
+    out: &mut [i8],
+) -> Result<(), SheetFault>
+    ensures answer { λ r. ⌜ r ≡ told (text-least n (length (now (store .entry))) (length (now (out .entry))) (read-cnf (now (text .entry)))) ⌝ }
+    ensures buffer { λ _. ⌜ now (out .exit) ≡ written (text-least n (length (now (store .entry))) (length (now (out .entry))) (read-cnf (now (text .entry)))) (now (out .entry)) ⌝ }
 {
-    let n = measure(text)?.vars;
-    load(text, n, store)
+    let size = load(text, n, store)?;
+    let count = size.count;
+    least_of_rules(&store[0..count], size.vars, n, out)
 }
 
-// Writes the literals of the earliest setting that the text allows, with each of its variables as a contact, and answers how many there are.
-pub fn least_of_text(
+// The same with each variable of the text as a contact; answers how many there are.
+pub fn least_of_whole_text(
     text: &[u8],
     store: &mut [LiteralSet],
     out: &mut [i8],
 ) -> Result<usize, SheetFault>
-    ensures answer { λ r. ⌜ r ≡ told-size (variables-of (read-cnf (now (text .entry)))) (text-least (length (now (store .entry))) (length (now (out .entry))) (read-cnf (now (text .entry)))) ⌝ }
-    ensures buffer { λ _. ⌜ now (out .exit) ≡ written (text-least (length (now (store .entry))) (length (now (out .entry))) (read-cnf (now (text .entry)))) (now (out .entry)) ⌝ }
+    ensures answer { λ r. ⌜ r ≡ told-size (variables-of (read-cnf (now (text .entry)))) (whole-least (length (now (store .entry))) (length (now (out .entry))) (read-cnf (now (text .entry)))) ⌝ }
+    ensures buffer { λ _. ⌜ now (out .exit) ≡ written (whole-least (length (now (store .entry))) (length (now (out .entry))) (read-cnf (now (text .entry)))) (now (out .entry)) ⌝ }
 {
-    let size = load_whole(text, store)?;
-    let count = size.count;
-    least_of_rules(&store[0..count], size.vars, out)?;
-    Ok(size.vars)
+    let n = measure(text)?.vars;
+    least_of_text(text, n, store, out)?;
+    Ok(n)
 }
 
 // The loaded rules allow just the settings that the text allows.

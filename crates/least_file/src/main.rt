@@ -1,58 +1,15 @@
 // Reads a clause text from a file, takes its first N variables for contacts, and prints the least setting that it allows. For timing, it answers REPEAT times before it prints.
-ghost use mathlib.Core.Path.{_≡_};
-ghost use lib.ListN.{length};
-ghost use Rattle.dimacs.specs.Cnf.{read-cnf};
-ghost use Rattle.least_file.specs.Answer.{first-least, sheet-least};
-ghost use Rattle.sheets.specs.Answers.{told, written};
-use clauses::ClauseSolver;
-use clauses::ClauseSolves;
-use clauses::counts::VariableCounts;
-use dimacs_load::load;
+use clause_texts::least_of_text;
 use faults::SheetFault;
 use literals::LiteralSet;
-use sheets::Sheet;
 use std::env;
 use std::error::AnyError;
 use std::fmt::Write;
 use std::fs;
 use std::io;
-use witnesses::CacheSolves;
-use witnesses::WitnessCache;
 
 // A text has at most 4,096 rules.
 const MOST_RULES: usize = 4_096;
-
-// Writes the literals of the earliest setting of n contacts that some values of the other variables meet every rule with.
-fn least_of_rules(
-    rules: &[LiteralSet],
-    variables: usize,
-    n: usize,
-    out: &mut [i8],
-) -> Result<(), SheetFault>
-    ensures answer { λ r. ⌜ r ≡ told (sheet-least variables n (now (rules .entry)) (length (now (out .entry)))) ⌝ }
-    ensures buffer { λ _. ⌜ now (out .exit) ≡ written (sheet-least variables n (now (rules .entry)) (length (now (out .entry)))) (now (out .entry)) ⌝ }
-{
-    let counts = VariableCounts::new(variables, n)?;
-    let solver = ClauseSolver::new(rules, counts);
-    let cache = WitnessCache::new(solver);
-    let mut sheet = Sheet::open(cache, 1);
-    sheet.least(out)
-}
-
-// Loads the text into the store, and writes the literals of the earliest setting of its first n variables that it allows.
-fn least_of_text(
-    text: &[u8],
-    n: usize,
-    store: &mut [LiteralSet],
-    out: &mut [i8],
-) -> Result<(), SheetFault>
-    ensures answer { λ r. ⌜ r ≡ told (first-least n (length (now (store .entry))) (length (now (out .entry))) (read-cnf (now (text .entry)))) ⌝ }
-    ensures buffer { λ _. ⌜ now (out .exit) ≡ written (first-least n (length (now (store .entry))) (length (now (out .entry))) (read-cnf (now (text .entry)))) (now (out .entry)) ⌝ }
-{
-    let size = load(text, n, store)?;
-    let count = size.count;
-    least_of_rules(&store[0..count], size.vars, n, out)
-}
 
 // The same, that many times and at least once.
 fn least_repeated(

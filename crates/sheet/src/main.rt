@@ -1,5 +1,5 @@
 // Reads a clause text from standard input, takes each of its variables for a contact, and prints the least setting that it allows.
-use clause_texts::least_of_text;
+use clause_texts::least_of_whole_text;
 use faults::SheetFault;
 use literals::LiteralSet;
 use std::error::AnyError;
@@ -34,7 +34,7 @@ fn main(rt: LibcRuntime) -> Result<(), AnyError> {
     let _ = rt.stdin().take(LONGEST_TEXT + 1).read_to_end(&mut text)?;
     let mut store = vec![in rt.alloc(); LiteralSet::empty(); MOST_RULES]?;
     let mut literals = [0i8; 32];
-    match least_of_text(text.as_slice(), store.as_mut_slice(), &mut literals) {
+    match least_of_whole_text(text.as_slice(), store.as_mut_slice(), &mut literals) {
         Ok(n) => print_least(&rt, &literals[0..n.min(32)])?,
         Err(fault) => print_refusal(&rt, fault)?,
     }
