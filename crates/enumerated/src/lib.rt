@@ -17,6 +17,7 @@ mod count;
 
 pub use count::ContactCount;
 
+#[derive(Drop)]
 pub struct ListSolver<'a> {
     allowed: &'a [Setting],
     contacts: usize,

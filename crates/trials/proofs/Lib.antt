@@ -1,2 +1,2 @@
 mod Released
-mod Steps
+pub mod Steps

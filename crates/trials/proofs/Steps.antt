@@ -30,13 +30,13 @@ refused-is : (p : Sheet-Meaning) (o : Option SheetFault) (f : SheetFault) → Er
 refused-is p None f e = absurd (let z : _≡_ {A = Bool} false true = cc in false≢true z)
 refused-is p (Some k) f e = cc
 
-accepted-is : (p : Sheet-Meaning) (o : Option SheetFault) (t : Ticket) → Ok t ≡ assume-answer p o → (o ≡ None) × (t ≡ next-ticket p)
+pub accepted-is : (p : Sheet-Meaning) (o : Option SheetFault) (t : Ticket) → Ok t ≡ assume-answer p o → (o ≡ None) × (t ≡ next-ticket p)
 accepted-is p None t e = (refl, cc)
 accepted-is p (Some f) t e = absurd (let z : _≡_ {A = Bool} false true = cc in false≢true z)
 
-module _ (question : Sheet-Meaning → Result (List ℤ) SheetFault) (p : Sheet-Meaning) (l : ℤ) (ls : List ℤ) where
-  pub refused-answer : (f : SheetFault) → Err f ≡ assume-answer p (assume-fault p l) → answer-under question p (l ∷ ls) ≡ Err f
-  refused-answer f e = ap (λ o. unless-refused o (answer-under question (with-held p l) ls)) (refused-is p (assume-fault p l) f e)
+module _ (p : Sheet-Meaning) (l : ℤ) (ls : List ℤ) where
+  pub refused-answer : (question : Sheet-Meaning → Result (List ℤ) SheetFault) (f : SheetFault) → Err f ≡ assume-answer p (assume-fault p l) → answer-under question p (l ∷ ls) ≡ Err f
+  refused-answer question f e = ap (λ o. unless-refused o (answer-under question (with-held p l) ls)) (refused-is p (assume-fault p l) f e)
 
   pub refused-kept : (q : Sheet-Meaning) (f : SheetFault) → Err f ≡ assume-answer p (assume-fault p l) → q ≡ after-assume p l (assume-fault p l) → q ≡ after-trial p (l ∷ ls)
   refused-kept q f e held =

@@ -19,7 +19,7 @@ enum Question {
 }
 
 // Gives the ticket of a held assumption back: RELEASE cannot refuse it.
-fn give_back<S: Solver>(sheet: &mut Sheet<S>, ticket: Ticket)
+pub fn give_back<S: Solver>(sheet: &mut Sheet<S>, ticket: Ticket)
     requires in_order { ⌜ In-Order S·Solver (now sheet) ⌝ }
     requires held { ⌜ isSome (held-at (sheet-meaning S·Solver (now sheet)) ticket) ≡ true ⌝ }
     ensures released { λ _. ⌜ sheet-meaning S·Solver (now (sheet .exit)) ≡ after-release (sheet-meaning S·Solver (now (sheet .entry))) (held-at (sheet-meaning S·Solver (now (sheet .entry))) ticket) ⌝ }

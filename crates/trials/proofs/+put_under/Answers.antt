@@ -27,11 +27,11 @@ returns-in-Break-ticket g t c =
     let held = subst (λ k. after ≡ after-assume p k (assume-fault p k)) same (c .in-Break-ticket .ensures tt .held) in
     let all : l ∷ ls ≡ c .args .literals .now = sym (c .in-Some .ensures tt .cases .0) in
     let failed = err-from-errBy (c .from-residual .result) (c .from-residual .ensures .1) in
-    let none : Err (c .in-Break-ticket .field-0 .0) ≡ answer-under question p (c .args .literals .now) = sym (refused-answer question p l ls _ refused) ∙ ap (answer-under question p) all in
+    let none : Err (c .in-Break-ticket .field-0 .0) ≡ answer-under question p (c .args .literals .now) = sym (refused-answer p l ls question _ refused) ∙ ap (answer-under question p) all in
     record {
       answer = failed .1 ∙ ap Err (failed .2) ∙ ap counted none;
       buffer = ap (λ r. written r (c .args .out .now)) none;
-      given-back = refused-kept question p l ls after _ refused held ∙ ap (after-trial p) all;
+      given-back = refused-kept p l ls after _ refused held ∙ ap (after-trial p) all;
       in-order = c .in-Break-ticket .ensures tt .in-order;
     }
 
@@ -41,7 +41,7 @@ give-back-requires g t c κs =
     let l = c .in-Some .first .now in
     record {
       in-order = c .put-under-answer .ensures .in-order;
-      held = ticket-good (answer-to (c .args .question) (length (c .args .out .now))) p (toZ w8 (ofZ w8 l)) (c .in-Some .rest .now) _ _ (c .in-Continue-ticket .ticket) (c .in-Continue-ticket .ensures tt .answer) (c .in-Continue-ticket .ensures tt .held) (c .put-under-answer .ensures .given-back);
+      held = ticket-good p (toZ w8 (ofZ w8 l)) (c .in-Some .rest .now) _ _ (c .in-Continue-ticket .ticket) (c .in-Continue-ticket .ensures tt .answer) (c .in-Continue-ticket .ensures tt .held) (c .put-under-answer .ensures .given-back);
     }
 
 pub returns-in-None : need.returns-in-None
