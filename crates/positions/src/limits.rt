@@ -78,6 +78,7 @@ fn print_least<S: Solver>(
     println!(rt, " (due {due})")
 }
 
+// Literals that name no contact, and as many held as may be, and one more.
 fn ask_held<S: Solver + Drop>(rt: &impl Print, solver: S) -> io::Result<()>
     requires ordered { ⌜ S·Solver .ordered solver ⌝ }
 {
@@ -89,6 +90,7 @@ fn ask_held<S: Solver + Drop>(rt: &impl Print, solver: S) -> io::Result<()>
     print_least(rt, "33 held", &mut sheet, &[1; 33], "refused 7 0")
 }
 
+// As many rules as may be added, and one more.
 fn ask_rules<S: Solver + Drop>(rt: &impl Print, solver: S) -> io::Result<()>
     requires ordered { ⌜ S·Solver .ordered solver ⌝ }
 {
@@ -100,6 +102,7 @@ fn ask_rules<S: Solver + Drop>(rt: &impl Print, solver: S) -> io::Result<()>
     print_rule(rt, "rule 65", &mut sheet, &[1], "refused 6 0")
 }
 
+// As many tickets as may be issued, and one more.
 fn ask_tickets<S: Solver + Drop>(rt: &impl Print, solver: S) -> io::Result<()>
     requires ordered { ⌜ S·Solver .ordered solver ⌝ }
 {
