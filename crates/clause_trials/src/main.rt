@@ -37,8 +37,8 @@ struct Random {
 
 impl Random {
     fn below(&mut self, limit: u8) -> u8
-        requires { ⌜ 0 < limit ⌝ }
-        ensures { λ r. ⌜ r < limit ⌝ }
+        requires positive { ⌜ 0 < limit ⌝ }
+        ensures below { λ r. ⌜ r < limit ⌝ }
     {
         self.state ^= self.state << 13;
         self.state ^= self.state >> 7;
@@ -47,7 +47,8 @@ impl Random {
     }
 
     fn literal(&mut self, variables: u8) -> i8
-        requires { ⌜ 0 < variables ⌝ ∗ ⌜ variables ≤ 64 ⌝ }
+        requires positive { ⌜ 0 < variables ⌝ }
+        requires few { ⌜ variables ≤ 64 ⌝ }
     {
         let literal = (self.below(variables) + 1) as i8;
         if self.below(2) == 0 {
@@ -58,7 +59,8 @@ impl Random {
     }
 
     fn rule(&mut self, variables: u8) -> [i8; 3]
-        requires { ⌜ 0 < variables ⌝ ∗ ⌜ variables ≤ 64 ⌝ }
+        requires positive { ⌜ 0 < variables ⌝ }
+        requires few { ⌜ variables ≤ 64 ⌝ }
     {
         let first = self.literal(variables);
         let second = self.literal(variables);
