@@ -15,7 +15,7 @@ import sys
 NAME = re.compile(r"(?<![\w'′·-])[^\W\d_][\w'′]*(?:-[\w'′]+)+(?![\w-])|(?<![\w'′·-])getD[\w'′-]*")
 COMMENT = re.compile(r"--[^\n]*|\"(?:[^\"\\\n]|\\.)*\"")
 CODE_COMMENT = re.compile(r"//[^\n]*|b?\"(?:[^\"\\\n]|\\.)*\"|b?'(?:\\.|[^'\\])'")
-LIBRARY_USE = re.compile(r"use\s+Rattle\.(?:std|core|alloc)\.[\w.'-]*\{([^}]*)\}", re.S)
+USE = re.compile(r"use\s+([\w.'-]+)\.\{([^}]*)\}", re.S)
 # Heads behind which Rattle's own labels stand.
 HEADS = ("goal", "given", "c", "w", "l", "g", "m", "Goals", "Given", "Lts")
 
@@ -55,11 +55,14 @@ def respelled(name):
 
 
 def library_names(root):
+    crates = set(os.listdir(os.path.join(root, "crates")))
     names = set()
     for path in texts(root):
-        for m in LIBRARY_USE.finditer(read(path)):
-            for item in m.group(1).split(","):
-                names.add(item.split(" as ")[0].strip())
+        for m in USE.finditer(read(path)):
+            parts = m.group(1).split(".")
+            if parts[0] != "Rattle" or parts[1] not in crates:
+                for item in m.group(2).split(","):
+                    names.add(item.split(" as ")[0].strip())
     return names
 
 

@@ -1,6 +1,6 @@
 -- The literals of a set make that set again, and take no more bytes than a list of them.
 use Rattle.std.proofs.Common.{◌≡◌, ℕ, zero, suc, ◌+◌, ◌-◌, ◌*◌, ◌/◌, ◌%◌, ◌^◌, ◌<◌, ◌≤◌, Bool, true, false, cond, ◌||◌, ltb, List, [], ◌∷◌, ◌++◌, length, ℤ, pos, negsuc, fold, sym, refl, ap, ◌∙◌, subst, ⊎_elim, mod-lt, mod-eq_of_lt, one-mul, zero-add, zero-mul, arith, pow_pos}
-use native.Mathlib.Nat.{mod_one}
+use native.Mathlib.Nat.{mod-one}
 use lib.Bits.{bit_or}
 use Rattle.std.specs.Fmt.{signed_decimal}
 use Rattle.std.specs.List.{AllByRecursion as All}
@@ -85,7 +85,7 @@ same_set V s v h =
     ∙ ap (λ n. record { closed = s.closed; opened = n }) (mod-eq_of_lt h.1)
   where
     start : no_literals ≡ low s 0
-    start = ap (λ n. record { closed = n; opened = 0 }) (sym (mod_one s.closed)) ∙ ap (λ n. record { closed = s.closed % 2 ^ 0; opened = n }) (sym (mod_one s.opened))
+    start = ap (λ n. record { closed = n; opened = 0 }) (sym (mod-one s.closed)) ∙ ap (λ n. record { closed = s.closed % 2 ^ 0; opened = n }) (sym (mod-one s.opened))
 
 -- a list of literals of V variables makes a set over them
 over_one : (V : ℕ) (s : LiteralSet) (l : ℤ) (b : Bool) → Over V s → Named V l → Over V (cond b (inserted s l) s)

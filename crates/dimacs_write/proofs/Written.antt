@@ -1,7 +1,7 @@
 -- What a write leaves in the buffer, and what that reads as.
 use Rattle.std.proofs.Common.{◌≡◌, ℕ, ◌+◌, ◌-◌, ◌≤◌, Bool, true, false, cond, ◌&&◌, leb, List, [], ◌∷◌, ◌++◌, map, length, take, drop, set, Ok, Err, Result, sym, refl, ap, ◌∙◌, subst, append_assoc, add-zero, zero-add, arith, length-set, take-append-drop}
 use lib.ListN.{length-map}
-use lib.Seq.{take_append_seam}
+use lib.Seq.{take-append_seam}
 use Rattle.std.specs.List.{AllByRecursion as All}
 use Rattle.std.proofs.ByRecursion.{All-map, All-weaker}
 use Rattle.std.proofs.lemmas.List.{take_more_set, drop-set-lt}
@@ -77,7 +77,7 @@ module _ (V : ℕ) (sets : List LiteralSet) (s : List ℕ) where
       let some = and_parts (leb 1 V) _ (and_parts (some_text V sets) _ q.0).0 in
       let few = and_parts (leb V 64) _ some.1 in
       let same = q.1 in
-      let front : take n out ≡ set_text V sets = ap (λ l. take n l) b ∙ ap (λ m. take m (set_text V sets ++ drop (length (set_text V sets)) s)) same ∙ take_append_seam (set_text V sets) (drop (length (set_text V sets)) s) in
+      let front : take n out ≡ set_text V sets = ap (λ l. take n l) b ∙ ap (λ m. take m (set_text V sets ++ drop (length (set_text V sets)) s)) same ∙ take-append_seam (set_text V sets) (drop (length (set_text V sets)) s) in
       ap (λ l. as_sets (read_cnf l)) front
       ∙ read_sets (leb-true 1 V some.0) (leb-true V 64 few.0) (leb-true (length sets) 4096 few.1) h (omega arith)
 

@@ -1,7 +1,7 @@
 -- The lanes of an assignment that leaves at most six inputs undecided: each setting that agrees with it has one, and no other setting has.
 use Rattle.std.proofs.Common.{◌≡◌, ℕ, zero, suc, ◌+◌, ◌^◌, ◌<◌, ◌≤◌, Bool, true, false, cond, not, ◌&&◌, ◌||◌, eqb, List, map, length, get_or, Some, None, sym, refl, ap, ◌∙◌, subst, ap₂, ⊎_elim, arith}
 use mathlib.Core.Bool.{beq}
-use mathlib.Core.List.{map_map}
+use mathlib.Core.List.{map-map}
 use lib.Bits.{bit_or}
 use Rattle.std.specs.List.{range_with_len}
 use Rattle.std.proofs.lemmas.Nat.{or_lt, pow_pos, pow_below}
@@ -136,7 +136,7 @@ opposed a k false = refl
 module _ (n : ℕ) (a : Assignment) where
   -- lane j of the inputs
   inputs_lane : (j : ℕ) → map (λ w. bit w j) (input_words n a) ≡ map (λ k. bit (input_word a k (undecided k a)) j) (range_with_len 0 n)
-  inputs_lane j = map_map (λ w. bit w j) (λ k. input_word a k (undecided k a)) (range_with_len 0 n)
+  inputs_lane j = map-map (λ w. bit w j) (λ k. input_word a k (undecided k a)) (range_with_len 0 n)
 
   pub present : (x : List Bool) → length x ≡ n → agreeing a x ≡ true → undecided n a ≤ 6 → (j : ℕ) × (j < 64) × (map (λ w. bit w j) (input_words n a) ≡ x)
   present x long fit few =

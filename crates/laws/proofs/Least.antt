@@ -1,6 +1,6 @@
 -- The laws of `least`, `some` and `number`.
 use Rattle.std.proofs.Common.{◌≡◌, ℕ, zero, suc, ◌+◌, ◌^◌, ◌<◌, Bool, true, false, cond, not, ◌&&◌, List, [], ◌∷◌, ◌++◌, length, is_some, Some, None, Option, unwrap_or, sym, refl, ap, ◌∙◌, subst, arith}
-use native.Mathlib.Nat.{two_pow_succ}
+use native.Mathlib.Nat.{two-pow-succ}
 use Rattle.std.specs.Option.{option_map, option_or}
 use Rattle.std.proofs.lemmas.List.{nil_from_length}
 use Rattle.std.proofs.lemmas.Bool.{both_ways, not-true, not-false, true≢false, false≢true, and_parts}
@@ -10,8 +10,8 @@ use Rattle.laws.specs.Laws.{Earliest, IsEarliest, NonePasses, LeastLaw, LeastAli
 
 pub number_below : (x : List Bool) → number x < 2 ^ length x
 number_below [] = omega arith
-number_below (true ∷ x) = let h = number_below x in rw two_pow_succ (omega arith)
-number_below (false ∷ x) = let h = number_below x in rw two_pow_succ (omega arith)
+number_below (true ∷ x) = let h = number_below x in rw two-pow-succ (omega arith)
+number_below (false ∷ x) = let h = number_below x in rw two-pow-succ (omega arith)
 
 -- of two lists that part at a place, the one with false there has the smaller number
 pub number_parts : (front x y : List Bool) → length x ≡ length y → number (front ++ false ∷ x) < number (front ++ true ∷ y)

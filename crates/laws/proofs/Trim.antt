@@ -1,6 +1,6 @@
 -- To leave out entries one after another, where one more entry keeps a list passing.
 use Rattle.std.proofs.Common.{◌≡◌, suc, ◌+◌, ◌^◌, ◌<◌, ◌≤◌, Bool, true, false, cond, List, [], ◌∷◌, ◌++◌, length, Some, None, sym, refl, ap, ◌∙◌, subst, arith, pow_pos}
-use mathlib.Core.List.{nil≢cons, head_eq_of_cons_eq, tail_eq_of_cons_eq}
+use mathlib.Core.List.{nil≢cons, head-eq_of_cons-eq, tail-eq_of_cons-eq}
 use Rattle.std.specs.List.{AllByRecursion as All}
 use Rattle.std.proofs.lemmas.List.{append_assoc, append-nil}
 use Rattle.std.proofs.lemmas.Bool.{both_ways, false≢true, cond-true, cond-false}
@@ -64,10 +64,10 @@ one_less [] items front back a h = absurd (not_nil front back a h)
 one_less (b ∷ c) [] front back a h = absurd (not_nil front back a h)
 one_less (false ∷ c) (i ∷ items) front back a h =
     let r = one_less c items front back a h in (false ∷ r.0, ap suc r.1, r.2, r.3)
-one_less (true ∷ c) (i ∷ items) [] back a h = (false ∷ c, refl, tail_eq_of_cons_eq h, omega (arith, pow_pos (length c)))
+one_less (true ∷ c) (i ∷ items) [] back a h = (false ∷ c, refl, tail-eq_of_cons-eq h, omega (arith, pow_pos (length c)))
 one_less (true ∷ c) (i ∷ items) (f ∷ front) back a h =
-    let r = one_less c items front back a (tail_eq_of_cons_eq h) in
-    let head : i ≡ f = head_eq_of_cons_eq h in
+    let r = one_less c items front back a (tail-eq_of_cons-eq h) in
+    let head : i ≡ f = head-eq_of_cons-eq h in
     let rest = r.2 in
     let same : i ∷ chosen r.0 items ≡ f ∷ (front ++ back) = cc in
     let w : 2 ^ length r.0 ≡ 2 ^ length c = ap (λ m. 2 ^ m) r.1 in

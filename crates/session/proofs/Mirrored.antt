@@ -1,6 +1,6 @@
 -- A sheet answers a call, and is left by it, as the model that describes it.
 use Rattle.std.proofs.Common.{◌≡◌, ℕ, zero, suc, ◌+◌, ◌<◌, ◌≤◌, Bool, true, false, cond, not, ◌&&◌, ◌||◌, eqb, ltb, leb, List, [], ◌∷◌, ◌++◌, map, length, take, drop, ℤ, is_some, Some, None, Ok, Err, Option, Result, unwrap_or, sym, refl, ap, ◌∙◌, subst, ap₂, arith}
-use lib.Dec.{leb_suc_suc}
+use lib.Dec.{leb-suc-suc}
 use Rattle.std.specs.Option.{option_map, ok_or}
 use Rattle.std.specs.List.{remove, AllByRecursion as All}
 use Rattle.std.proofs.lemmas.List.{length-map, map-append}
@@ -113,7 +113,7 @@ holds_numbered k (h ∷ hs) = by (eqb h.number k) (holds_numbered k hs ∙ sym (
   by false later = later
 
 without_cons : (h : Held) (hs : List Held) (i : ℕ) → without (h ∷ hs) (suc i) ≡ h ∷ without hs i
-without_cons h hs i = ap (λ c. cond c (h ∷ remove hs i) (h ∷ hs)) (leb_suc_suc (suc i) (length hs)) ∙ by (ltb i (length hs)) where
+without_cons h hs i = ap (λ c. cond c (h ∷ remove hs i) (h ∷ hs)) (leb-suc-suc (suc i) (length hs)) ∙ by (ltb i (length hs)) where
   by : (b : Bool) → cond b (h ∷ remove hs i) (h ∷ hs) ≡ h ∷ cond b (remove hs i) hs
   by true = refl
   by false = refl

@@ -1,6 +1,6 @@
 -- The record of chosen literals of a setting has the sums of their weights, and that of all of them the setting's number.
 use Rattle.std.proofs.Common.{◌≡◌, ℕ, suc, ◌+◌, ◌-◌, ◌*◌, ◌^◌, Bool, true, false, List, [], ◌∷◌, map, length, ℤ, fold, sym, refl, ap, ◌∙◌, ap₂, arith, pow_pos}
-use native.Mathlib.Nat.{two_pow_succ}
+use native.Mathlib.Nat.{two-pow-succ}
 use lib.Bits.{bit_or, or_shifted}
 use Rattle.std.proofs.lemmas.List.{length-map}
 use Rattle.std.proofs.lemmas.Bool.{cond-true}
@@ -13,7 +13,7 @@ use Rattle.laws.proofs.Named.{names_literal}
 
 -- the next lower weight is added to a multiple of the weight above it
 or_next : (a k : ℕ) → bit_or (a * 2 ^ suc k) (2 ^ k) ≡ a * 2 ^ suc k + 2 ^ k
-or_next a k = or_shifted a (suc k) (2 ^ k) (rw two_pow_succ (omega (arith, pow_pos k)))
+or_next a k = or_shifted a (suc k) (2 ^ k) (rw two-pow-succ (omega (arith, pow_pos k)))
 
 odd_multiple : (a k : ℕ) → a * 2 ^ suc k + 2 ^ k ≡ (2 * a + 1) * 2 ^ k
 odd_multiple a k = let p : 2 ^ suc k ≡ 2 * 2 ^ k = omega arith in rw p (omega arith)

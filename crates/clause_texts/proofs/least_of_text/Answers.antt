@@ -7,13 +7,13 @@ use Rattle.clause_texts.proofs.least_of_text.Goals as goal
 
 pub returns : goal.returns
 returns c =
-    let e = c.in-ok-size.ensures in
-    let size = c.in-ok-size.size in
+    let e = c.in_ok-size.ensures in
+    let size = c.in_ok-size.size in
     let same = loaded_answer c.args.n (length c.args.store.now) (length c.args.out.now) c.args.text.now size c.args.store.now _ e.answer (ap (take (size.count - 0)) e.store) in
-    record { answer = c.least-of-rules.ensures.answer ∙ ap told same; buffer = c.least-of-rules.ensures.buffer ∙ ap (λ a. written a c.args.out.now) same }
+    record { answer = c.least_of_rules.ensures.answer ∙ ap told same; buffer = c.least_of_rules.ensures.buffer ∙ ap (λ a. written a c.args.out.now) same }
 
-pub returns-in-err-size : goal.returns-in-err-size
-returns-in-err-size c =
-    let e = loading_refused c.args.n (length c.args.store.now) (length c.args.out.now) (read_cnf c.args.text.now) _ c.in-err-size.ensures.answer in
-    let p = err_from_is_err_and c.from-residual.result c.from-residual.ensures.1 in
+pub returns-in_err-size : goal.returns-in_err-size
+returns-in_err-size c =
+    let e = loading_refused c.args.n (length c.args.store.now) (length c.args.out.now) (read_cnf c.args.text.now) _ c.in_err-size.ensures.answer in
+    let p = err_from_is_err_and c.from_residual.result c.from_residual.ensures.1 in
     record { answer = p.1 ∙ ap Err p.2 ∙ ap told e; buffer = ap (λ a. written a c.args.out.now) e }

@@ -6,8 +6,8 @@ use Rattle.implications.proofs.first_values.Goals as goal
 
 pub loop-index-init : goal.loop-index-init
 loop-index-init c =
-    let e = c.nothing-known-values.ensures in
-    (length-set _ _ _ ∙ e.length, λ V low inputs. first_sound c.nothing-known-values.result V (omega (arith, e.length)) e.unknown low)
+    let e = c.nothing_known-values.ensures in
+    (length-set _ _ _ ∙ e.length, λ V low inputs. first_sound c.nothing_known-values.result V (omega (arith, e.length)) e.unknown low)
 
 pub loop-index-preserved : goal.loop-index-preserved
 loop-index-preserved c =

@@ -4,4 +4,4 @@ use Rattle.lanes.specs.Words.{all_lanes, all_met_word}
 use Rattle.lanes.proofs.all_met_word.Given as goal
 
 abbrev pub invariant-loop-set : goal.invariant-loop-set
-invariant-loop-set l = all_met_word l.all (map (as_rule l.as-bars) (drop l.set-index l.sets)) l.inputs ≡ all_met_word all_lanes (map (as_rule l.as-bars) l.sets) l.inputs
+invariant-loop-set l = all_met_word l.all (map (as_rule l.as_bars) (drop l.set-index l.sets)) l.inputs ≡ all_met_word all_lanes (map (as_rule l.as_bars) l.sets) l.inputs

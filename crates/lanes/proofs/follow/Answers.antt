@@ -16,8 +16,8 @@ loop-gate-preserved c =
     let front = length-take-le i gates c.loop-gate.auto.gate-index-end in
     let long : length now ≡ length start + i = ap length c.loop-gate.invariant ∙ length_words start (take i gates) ∙ omega arith in
     let room : length now + 1 ≤ 2081 = omega arith in
-    appended_in_room {T = ℕ} 2081 now (c.gate-word-word.result ∷ []) (items c.push.new.self) c.push.ensures.placed room
-    ∙ ap (λ b. now ++ b ∷ []) (c.gate-word-word.ensures.word ∙ ap (λ vs. gate_word vs (get_or gates i no_gate)) c.as-slice.ensures.entries)
+    appended_in_room {T = ℕ} 2081 now (c.gate_word-word.result ∷ []) (items c.push.new.self) c.push.ensures.placed room
+    ∙ ap (λ b. now ++ b ∷ []) (c.gate_word-word.ensures.word ∙ ap (λ vs. gate_word vs (get_or gates i no_gate)) c.as_slice.ensures.entries)
     ∙ ap (λ vs. vs ++ gate_word vs (get_or gates i no_gate) ∷ []) c.loop-gate.invariant
     ∙ sym (words_push start (take i gates) (get_or gates i no_gate))
     ∙ ap (words_from start) (sym (take_more gates i no_gate c.loop-gate-test.true))

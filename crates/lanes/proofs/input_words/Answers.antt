@@ -15,9 +15,9 @@ loop-index-preserved c =
     let old = c.loop-index.invariant in
     let long : length now ≡ i = ap length old.0 ∙ length-map-range_with_len (λ k. input_word a k (undecided k a)) 0 i in
     let room : length now + 1 ≤ 32 = omega arith in
-    let e = c.next-rank-rank.ensures.rank in (
-      appended_in_room {T = ℕ} 32 now (c.input-word.result ∷ []) (items c.push.new.self) c.push.ensures.placed room
-          ∙ ap₂ (λ ws w. ws ++ w ∷ []) old.0 (c.input-word.ensures.lanes ∙ ap (input_word a i) old.1)
+    let e = c.next_rank-rank.ensures.rank in (
+      appended_in_room {T = ℕ} 32 now (c.input_word.result ∷ []) (items c.push.new.self) c.push.ensures.placed room
+          ∙ ap₂ (λ ws w. ws ++ w ∷ []) old.0 (c.input_word.ensures.lanes ∙ ap (input_word a i) old.1)
           ∙ sym (map-range_with_len_more (λ k. input_word a k (undecided k a)) 0 i i (omega arith)),
       e ∙ ap (next_rank a i) old.1 ∙ rank_more a i,
       omega (arith, e, rank_small a i c.loop-index.rank, old.2),

@@ -9,7 +9,7 @@ pub loop-index-preserved : goal.loop-index-preserved
 loop-index-preserved c =
     let i = c.loop-index.index in
     let ws = c.args.inputs.now in
-    ap (λ w. met_word (bit_or c.loop-index.met w) (i + 1) c.args.rule (drop (i + 1) ws)) c.literals-word-met.ensures.lanes
+    ap (λ w. met_word (bit_or c.loop-index.met w) (i + 1) c.args.rule (drop (i + 1) ws)) c.literals_word-met.ensures.lanes
     ∙ met_more c.loop-index.met i c.args.rule ws c.loop-index-test.true ∙ c.loop-index.invariant
 
 pub returns : goal.returns

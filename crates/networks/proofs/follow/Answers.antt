@@ -15,8 +15,8 @@ loop-gate-preserved c =
     let front = length-take-le i gates c.loop-gate.auto.gate-index-end in
     let long : length now ≡ length start + i = ap length c.loop-gate.invariant ∙ length_values start (take i gates) ∙ omega arith in
     let room : length now + 1 ≤ 2081 = omega arith in
-    appended_in_room {T = Bool} 2081 now (c.and-of-value.result ∷ []) (items c.push.new.self) c.push.ensures.placed room
-    ∙ ap (λ b. now ++ b ∷ []) (c.and-of-value.ensures.value ∙ ap (λ vs. gate_value vs (get_or gates i no_gate)) c.as-slice.ensures.entries)
+    appended_in_room {T = Bool} 2081 now (c.and_of-value.result ∷ []) (items c.push.new.self) c.push.ensures.placed room
+    ∙ ap (λ b. now ++ b ∷ []) (c.and_of-value.ensures.value ∙ ap (λ vs. gate_value vs (get_or gates i no_gate)) c.as_slice.ensures.entries)
     ∙ ap (λ vs. vs ++ gate_value vs (get_or gates i no_gate) ∷ []) c.loop-gate.invariant
     ∙ sym (values_push start (take i gates) (get_or gates i no_gate))
     ∙ ap (values_from start) (sym (take_more gates i no_gate c.loop-gate-test.true))

@@ -14,7 +14,7 @@ loop-index-preserved c =
     let now = items c.loop-index.values in
     let long : length now ≡ i + 1 = ap length c.loop-index.invariant ∙ omega (arith, length_reading i s) in
     let room : length now + 1 ≤ 2081 = omega arith in
-    appended_in_room {T = Bool} 2081 now (c.has-bit.result ∷ []) (items c.push-in-loop-index.new.self) c.push-in-loop-index.ensures.placed room
-    ∙ ap (λ vs. vs ++ c.has-bit.result ∷ []) c.loop-index.invariant
-    ∙ ap (λ b. false ∷ (reading i s ++ b ∷ [])) c.has-bit.ensures.set
+    appended_in_room {T = Bool} 2081 now (c.has_bit.result ∷ []) (items c.push-in-loop-index.new.self) c.push-in-loop-index.ensures.placed room
+    ∙ ap (λ vs. vs ++ c.has_bit.result ∷ []) c.loop-index.invariant
+    ∙ ap (λ b. false ∷ (reading i s ++ b ∷ [])) c.has_bit.ensures.set
     ∙ ap (λ x. false ∷ x) (sym (map-range_with_len_more (λ k. bit s.closed k) 0 i i (omega arith)))

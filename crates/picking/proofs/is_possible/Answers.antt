@@ -6,8 +6,8 @@ use Rattle.picking.proofs.is_possible.Goals as goal
 pub returns-in-Ok : goal.returns-in-Ok
 returns-in-Ok g c =
     record {
-      possible = c.is-some.ensures ∙ answer-possible (meaning_of g.S.Solver c.args.solver.now) c.args.literals.now c.in-Ok.found c.in-Ok.ensures.answer;
-      meaning-kept = c.ask.ensures.meaning-kept;
+      possible = c.is_some.ensures ∙ answer-possible (meaning_of g.S.Solver c.args.solver.now) c.args.literals.now c.in-Ok.found c.in-Ok.ensures.answer;
+      meaning_kept = c.ask.ensures.meaning_kept;
       ordered = c.ask.ensures.ordered;
     }
 
@@ -15,6 +15,6 @@ pub returns-in-Err : goal.returns-in-Err
 returns-in-Err g c =
     record {
       possible = refused-impossible (meaning_of g.S.Solver c.args.solver.now) c.args.literals.now c.in-Err.field-0 c.in-Err.ensures.answer;
-      meaning-kept = c.ask.ensures.meaning-kept;
+      meaning_kept = c.ask.ensures.meaning_kept;
       ordered = c.ask.ensures.ordered;
     }

@@ -14,11 +14,11 @@ pub returns-in-None : goal.returns-in-None
 returns-in-None g c =
     let m = meaning_of g.S.Solver c.args.solver.now in
     let held = items c.args.held.now in
-    let h = told m c.as-slice.result.now held c.in-ok-ask.field-0 c.as-slice.ensures.entries c.in-ok-ask.ensures.answer in
+    let h = told m c.as_slice.result.now held c.in_ok-ask.field-0 c.as_slice.ensures.entries c.in_ok-ask.ensures.answer in
     let none = least_none m.contacts (stands_with m held) (subst (Answers m held) c.in-None.is h.1) in
     record {
       answer = sym (ap (λ o. answered o (least_literals m held)) h.0 ∙ ap (λ o. Ok (option_map (literals 0) o)) none);
-      meaning-kept = c.ask.ensures.meaning-kept;
+      meaning_kept = c.ask.ensures.meaning_kept;
       ordered = c.ask.ensures.ordered;
     }
 
@@ -26,8 +26,8 @@ pub decided-requires : goal.decided-requires
 decided-requires g c =
     let m = meaning_of g.S.Solver c.args.solver.now in
     let held = items c.args.held.now in
-    let h = told m c.as-slice.result.now held c.in-ok-ask.field-0 c.as-slice.ensures.entries c.in-ok-ask.ensures.answer in
-    let same = c.ask.ensures.meaning-kept in
+    let h = told m c.as_slice.result.now held c.in_ok-ask.field-0 c.as_slice.ensures.entries c.in_ok-ask.ensures.answer in
+    let same = c.ask.ensures.meaning_kept in
     record {
       ordered = c.ask.ensures.ordered;
       named = ap (λ v. literal_fault v held) same ∙ h.0;
@@ -38,10 +38,10 @@ pub returns-in-Some : goal.returns-in-Some
 returns-in-Some g c =
     let m = meaning_of g.S.Solver c.args.solver.now in
     let held = items c.args.held.now in
-    let h = told m c.as-slice.result.now held c.in-ok-ask.field-0 c.as-slice.ensures.entries c.in-ok-ask.ensures.answer in
-    let same = c.ask.ensures.meaning-kept in
+    let h = told m c.as_slice.result.now held c.in_ok-ask.field-0 c.as_slice.ensures.entries c.in_ok-ask.ensures.answer in
+    let same = c.ask.ensures.meaning_kept in
     record {
       answer = ap Ok (c.decided.ensures.earliest ∙ ap (λ v. least_literals v held) same) ∙ sym (ap (λ o. answered o (least_literals m held)) h.0);
-      meaning-kept = c.decided.ensures.meaning-kept ∙ same;
+      meaning_kept = c.decided.ensures.meaning_kept ∙ same;
       ordered = c.decided.ensures.ordered;
     }

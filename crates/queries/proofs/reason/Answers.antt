@@ -23,10 +23,10 @@ pub returns-in-Some : goal.returns-in-Some
 returns-in-Some g c =
     let m = meaning_of g.S.Solver c.args.solver.now in
     let held = items c.args.held.now in
-    let h = told m c.as-slice.result.now held c.in-ok-ask.field-0 c.as-slice.ensures.entries c.in-ok-ask.ensures.answer in
+    let h = told m c.as_slice.result.now held c.in_ok-ask.field-0 c.as_slice.ensures.entries c.in_ok-ask.ensures.answer in
     record {
       answer = with_some m held c.in-Some.field-0 (h.0, subst (Answers m held) c.in-Some.is h.1);
-      meaning-kept = c.ask.ensures.meaning-kept;
+      meaning_kept = c.ask.ensures.meaning_kept;
       ordered = c.ask.ensures.ordered;
     }
 
@@ -34,18 +34,18 @@ pub trimmed-requires : goal.trimmed-requires
 trimmed-requires g c =
     let m = meaning_of g.S.Solver c.args.solver.now in
     let held = items c.args.held.now in
-    let h = told m c.as-slice.result.now held c.in-ok-ask.field-0 c.as-slice.ensures.entries c.in-ok-ask.ensures.answer in
-    record { ordered = c.ask.ensures.ordered; named = ap (λ v. literal_fault v held) c.ask.ensures.meaning-kept ∙ h.0 }
+    let h = told m c.as_slice.result.now held c.in_ok-ask.field-0 c.as_slice.ensures.entries c.in_ok-ask.ensures.answer in
+    record { ordered = c.ask.ensures.ordered; named = ap (λ v. literal_fault v held) c.ask.ensures.meaning_kept ∙ h.0 }
 
 pub returns-in-None : goal.returns-in-None
 returns-in-None g c =
     let m = meaning_of g.S.Solver c.args.solver.now in
     let held = items c.args.held.now in
-    let h = told m c.as-slice.result.now held c.in-ok-ask.field-0 c.as-slice.ensures.entries c.in-ok-ask.ensures.answer in
-    let same = c.ask.ensures.meaning-kept in
+    let h = told m c.as_slice.result.now held c.in_ok-ask.field-0 c.as_slice.ensures.entries c.in_ok-ask.ensures.answer in
+    let same = c.ask.ensures.meaning_kept in
     let left : items c.trimmed.result ≡ trim (enough m.contacts (stands m)) [] held = c.trimmed.ensures.left ∙ ap (λ v. trim (enough v.contacts (stands v)) [] held) same in
     record {
       answer = ap (λ t. Ok (Some t)) left ∙ with_none m held (h.0, subst (Answers m held) c.in-None.is h.1);
-      meaning-kept = c.trimmed.ensures.meaning-kept ∙ same;
+      meaning_kept = c.trimmed.ensures.meaning_kept ∙ same;
       ordered = c.trimmed.ensures.ordered;
     }

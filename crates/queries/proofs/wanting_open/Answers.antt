@@ -12,9 +12,9 @@ pub returns : goal.returns
 unfolding opened_next
 returns c =
     let front = items c.joined-all.result in
-    let l = c.literal-of.result in
+    let l = c.literal_of.result in
     let fit : SFits w8 l = search rules in
-    let is : to_z w8 (of_z w8 l) ≡ literal c.args.k false = to_z-of_z w8 l fit ∙ c.literal-of.ensures.wanted in
-    let both : front ≡ c.args.held.now ++ items c.args.placed.now = c.joined-all.ensures.both ∙ ap (λ t. c.args.held.now ++ t) c.as-slice.ensures.entries in
+    let is : to_z w8 (of_z w8 l) ≡ literal c.args.k false = to_z-of_z w8 l fit ∙ c.literal_of.ensures.wanted in
+    let both : front ≡ c.args.held.now ++ items c.args.placed.now = c.joined-all.ensures.both ∙ ap (λ t. c.args.held.now ++ t) c.as_slice.ensures.entries in
     let room : length front + 1 ≤ 65 = omega (arith, ap length both, length-append c.args.held.now (items c.args.placed.now), items-few c.args.placed.now, c.requires.few) in
     record { all = c.push.ensures.placed ∙ cond-true (leb (length front + 1) 65) (front ++ to_z w8 (of_z w8 l) ∷ []) front (le-leb (length front + 1) 65 room) ∙ ap (λ z. front ++ z ∷ []) is ∙ ap (λ t. t ++ literal c.args.k false ∷ []) both }

@@ -8,7 +8,7 @@ returns-in-Ok g c =
     record {
       found = answer-possible m c.args.literals.now c.in-Ok.found c.in-Ok.ensures.answer;
       shown = answer-shown m c.args.literals.now c.in-Ok.found c.in-Ok.ensures.answer.1;
-      meaning-kept = c.ask.ensures.meaning-kept;
+      meaning_kept = c.ask.ensures.meaning_kept;
       ordered = c.ask.ensures.ordered;
     }
 
@@ -18,6 +18,6 @@ returns-in-Err g c =
     record {
       found = refused-impossible m c.args.literals.now c.in-Err.field-0 c.in-Err.ensures.answer;
       shown = tt;
-      meaning-kept = c.ask.ensures.meaning-kept;
+      meaning_kept = c.ask.ensures.meaning_kept;
       ordered = c.ask.ensures.ordered;
     }

@@ -2,4 +2,4 @@ use Rattle.scripts.proofs.Trips.{lines_law}
 use Rattle.scripts.proofs.lines_law.Goals as goal
 
 pub returns : goal.returns
-returns c = record { lines-read-back = lines_law }
+returns c = record { lines_read_back = lines_law }

@@ -19,50 +19,50 @@ machine-init g c =
     let v = g.L.Look in
     let s = c.args.look.now in
     let few : v.size s ≤ 64 = v.few s c.requires.ordered in
-    (starts (v.size s) (v.good s) c.args.start _ few (ap (λ n. clashing n c.args.start) (sym c.variables.ensures.count) ∙ sym c.if-clashes.ensures.clashing), c.filled-with-pending.ensures.length)
+    (starts (v.size s) (v.good s) c.args.start _ few (ap (λ n. clashing n c.args.start) (sym c.variables.ensures.count) ∙ sym c.if-clashes.ensures.clashing), c.filled_with-pending.ensures.length)
 
-pub returns-in-default-Met : goal.returns-in-default-Met
-returns-in-default-Met g c =
+pub returns-in_default-Met : goal.returns-in_default-Met
+returns-in_default-Met g c =
     let v = g.L.Look in
     let s = c.args.look.now in
     let m = c.machine in
-    record { answer = met (v.size s) (v.good s) c.args.start m.current m.pending (depth m.state) m.invariant.0 c.in-default-Met.ensures.says }
+    record { answer = met (v.size s) (v.good s) c.args.start m.current m.pending (depth m.state) m.invariant.0 c.in_default-Met.ensures.says }
 
-pub returns-in-default-MetBy : goal.returns-in-default-MetBy
-returns-in-default-MetBy g c =
+pub returns-in_default-MetBy : goal.returns-in_default-MetBy
+returns-in_default-MetBy g c =
     let v = g.L.Look in
     let s = c.args.look.now in
     let m = c.machine in
-    record { answer = met_by (v.size s) (v.good s) c.args.start m.current m.pending (depth m.state) m.invariant.0 c.in-default-MetBy.good c.in-default-MetBy.ensures.says }
+    record { answer = met_by (v.size s) (v.good s) c.args.start m.current m.pending (depth m.state) m.invariant.0 c.in_default-MetBy.good c.in_default-MetBy.ensures.says }
 
-pub machine-smaller-in-default-Narrowed : goal.machine-smaller-in-default-Narrowed
-machine-smaller-in-default-Narrowed g c =
+pub machine-smaller-in_default-Narrowed : goal.machine-smaller-in_default-Narrowed
+machine-smaller-in_default-Narrowed g c =
     let v = g.L.Look in
     let s = c.args.look.now in
     let m = c.machine in
-    narrows_less (v.size s) (v.good s) c.args.start m.current m.pending (depth m.state) m.invariant.0 _ c.in-default-Narrowed.ensures.says
+    narrows_less (v.size s) (v.good s) c.args.start m.current m.pending (depth m.state) m.invariant.0 _ c.in_default-Narrowed.ensures.says
 
 -- the assignment after a forced value
-forced_is : (g : given.Over) (c : goal.After-with-current g) → c.with-current.result ≡ put c.machine.current c.in-default-Forced.variable c.in-default-Forced.closed
+forced_is : (g : given.Over) (c : goal.After-with-current g) → c.with-current.result ≡ put c.machine.current c.in_default-Forced.variable c.in_default-Forced.closed
 forced_is g c =
     let few : g.L.Look.size c.args.look.now ≤ 64 = g.L.Look.few c.args.look.now c.requires.ordered in
-    c.with-current.ensures.decided ∙ with_put c.machine.current c.in-default-Forced.variable c.in-default-Forced.closed (omega (arith, c.in-default-Forced.ensures.says.0))
+    c.with-current.ensures.decided ∙ with_put c.machine.current c.in_default-Forced.variable c.in_default-Forced.closed (omega (arith, c.in_default-Forced.ensures.says.0))
 
-pub machine-smaller-in-default-Forced : goal.machine-smaller-in-default-Forced
-machine-smaller-in-default-Forced g c =
+pub machine-smaller-in_default-Forced : goal.machine-smaller-in_default-Forced
+machine-smaller-in_default-Forced g c =
     let v = g.L.Look in
     let s = c.args.look.now in
     let m = c.machine in
-    let says = c.in-default-Forced.ensures.says in
+    let says = c.in_default-Forced.ensures.says in
     subst (λ x. weight (v.size s) x m.pending (depth m.state) < weight (v.size s) m.current m.pending (depth m.state)) (sym (forced_is g c))
     (narrows_less (v.size s) (v.good s) c.args.start m.current m.pending (depth m.state) m.invariant.0 _ (forced_narrows (v.size s) (v.good s) m.current _ _ says))
 
-pub machine-preserved-in-default-Forced : goal.machine-preserved-in-default-Forced
-machine-preserved-in-default-Forced g c =
+pub machine-preserved-in_default-Forced : goal.machine-preserved-in_default-Forced
+machine-preserved-in_default-Forced g c =
     let v = g.L.Look in
     let s = c.args.look.now in
     let m = c.machine in
-    let says = c.in-default-Forced.ensures.says in (
+    let says = c.in_default-Forced.ensures.says in (
       subst (λ x. Underway (v.size s) (v.good s) c.args.start x m.pending (depth m.state)) (sym (forced_is g c))
           (narrows (v.size s) (v.good s) c.args.start m.current m.pending (depth m.state) m.invariant.0 _ (forced_narrows (v.size s) (v.good s) m.current _ _ says)),
       m.invariant.1,
@@ -84,7 +84,7 @@ machine-smaller-in-Tried-Conflict g c =
     let s = c.args.look.now in
     let m = c.machine in
     let k = c.in-Tried-Conflict.last in
-    subst (λ d. weight (v.size s) (get_or m.pending k nothing) m.pending d < weight (v.size s) m.current m.pending (depth m.state)) (sym c.with-pending-state.ensures.count)
+    subst (λ d. weight (v.size s) (get_or m.pending k nothing) m.pending d < weight (v.size s) m.current m.pending (depth m.state)) (sym c.with_pending-state.ensures.count)
     (subst (λ d. weight (v.size s) (get_or m.pending k nothing) m.pending k < weight (v.size s) m.current m.pending d) (sym (ap depth c.in-Tried-Conflict.is-0))
     (goes_back_less (v.size s) (v.good s) c.args.start m.current m.pending k))
 
@@ -94,7 +94,7 @@ machine-preserved-in-Tried-Conflict g c =
     let s = c.args.look.now in
     let m = c.machine in
     let k = c.in-Tried-Conflict.last in (
-      subst (Underway (v.size s) (v.good s) c.args.start (get_or m.pending k nothing) m.pending) (sym c.with-pending-state.ensures.count)
+      subst (Underway (v.size s) (v.good s) c.args.start (get_or m.pending k nothing) m.pending) (sym c.with_pending-state.ensures.count)
           (goes_back (v.size s) (v.good s) c.args.start m.current m.pending k
           (subst (Underway (v.size s) (v.good s) c.args.start m.current m.pending) (ap depth c.in-Tried-Conflict.is-0) m.invariant.0) c.in-Tried-Conflict.ensures.says),
       m.invariant.1,
@@ -106,7 +106,7 @@ bounds-pending-count g c =
     let s = c.args.look.now in
     let m = c.machine in
     let few : v.size s ≤ 64 = v.few s c.requires.ordered in
-    omega (arith, c.pending-count.ensures.count, has_room (v.size s) (v.good s) c.args.start m.current m.pending (depth m.state) m.invariant.0 _ c.in-default-Split.ensures.says few)
+    omega (arith, c.pending-count.ensures.count, has_room (v.size s) (v.good s) c.args.start m.current m.pending (depth m.state) m.invariant.0 _ c.in_default-Split.ensures.says few)
 
 pub machine-smaller : goal.machine-smaller
 machine-smaller g c =
@@ -114,7 +114,7 @@ machine-smaller g c =
     let s = c.args.look.now in
     let m = c.machine in
     let few : v.size s ≤ 64 = v.few s c.requires.ordered in
-    let says = c.in-default-Split.ensures.says in
+    let says = c.in_default-Split.ensures.says in
     let room : depth m.state < length m.pending = omega (arith, m.invariant.1, has_room (v.size s) (v.good s) c.args.start m.current m.pending (depth m.state) m.invariant.0 _ says few) in
     splits_less (v.size s) (v.good s) c.args.start m.current m.pending (depth m.state) m.invariant.0 _ says room few _ _ c.branch-first.ensures.branches c.pending-count.ensures.count
 
@@ -124,7 +124,7 @@ machine-preserved g c =
     let s = c.args.look.now in
     let m = c.machine in
     let few : v.size s ≤ 64 = v.few s c.requires.ordered in
-    let says = c.in-default-Split.ensures.says in
+    let says = c.in_default-Split.ensures.says in
     let room : depth m.state < length m.pending = omega (arith, m.invariant.1, has_room (v.size s) (v.good s) c.args.start m.current m.pending (depth m.state) m.invariant.0 _ says few) in (
       splits (v.size s) (v.good s) c.args.start m.current m.pending (depth m.state) m.invariant.0 _ says room few _ _ c.branch-first.ensures.branches c.pending-count.ensures.count,
       length-set m.pending _ _ ∙ m.invariant.1,

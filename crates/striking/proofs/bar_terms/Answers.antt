@@ -9,9 +9,9 @@ pub loop-term-preserved : goal.loop-term-preserved
 loop-term-preserved g c =
     let m = meaning_of g.S.Solver c.args.solver.now in
     let i = c.loop-term.term-index in (
-      c.bar-term.ensures.barred ∙ ap (λ v. with_term v (get_or c.args.terms.now i no_wants)) c.loop-term.invariant.0
+      c.bar_term.ensures.barred ∙ ap (λ v. with_term v (get_or c.args.terms.now i no_wants)) c.loop-term.invariant.0
           ∙ sym (fold_more with_term m c.args.terms.now i no_wants c.loop-term-test.true),
-      c.bar-term.ensures.ordered,
+      c.bar_term.ensures.ordered,
     )
 
 pub returns : goal.returns

@@ -8,16 +8,16 @@ use Rattle.queries.proofs.Answers.{answer-tells, fault_none}
 use Rattle.striking.specs.Striking.{wanted_in}
 use Rattle.striking.proofs.covers_some.Given as given
 use Rattle.striking.proofs.covers_some.Goals as goal
-use Rattle.striking.proofs.covers_some.Goals.{After-as-slice}
+use Rattle.striking.proofs.covers_some.Goals.{After-as_slice}
 
-module _ (g : given.Over) (c : After-as-slice g) where
+module _ (g : given.Over) (c : After-as_slice g) where
   abbrev mean : Meaning
   mean = meaning_of g.S.Solver c.args.solver.now
 
-  asked : c.as-slice.result.now ≡ wanted_in mean c.args.term
-  asked = c.as-slice.ensures.entries ∙ c.literals-literals.ensures.listed ∙ ap (λ k. wanted (min k 32) c.args.term) c.contacts.ensures.count
+  asked : c.as_slice.result.now ≡ wanted_in mean c.args.term
+  asked = c.as_slice.ensures.entries ∙ c.literals-literals.ensures.listed ∙ ap (λ k. wanted (min k 32) c.args.term) c.contacts.ensures.count
 
-  unrefused : literal_fault mean c.as-slice.result.now ≡ None
+  unrefused : literal_fault mean c.as_slice.result.now ≡ None
   unrefused =
       let n : ℕ = mean.contacts in
       let few = (g.S.Solver.few c.args.solver.now c.requires.ordered).1 in
@@ -26,15 +26,15 @@ module _ (g : given.Over) (c : After-as-slice g) where
 
 pub unreachable-requires : goal.unreachable-requires
 unreachable-requires g c =
-    let none = unrefused g (goal.at.unreachable-requires g c).After-as-slice in
+    let none = unrefused g (goal.at.unreachable-requires g c).After-as_slice in
     let refused = c.in-Err.ensures.answer in
     let z : ◌≡◌ {A = ℕ} 0 1 = cc in omega arith
 
 pub returns : goal.returns
 returns g c =
-    let v = (goal.at.returns g c).After-as-slice in
+    let v = (goal.at.returns g c).After-as_slice in
     record {
-      some = c.is-some.ensures ∙ answer-tells (mean g v) c.as-slice.result.now c.in-Ok.found c.in-Ok.ensures.answer.1 ∙ ap (λ ls. some (mean g v).contacts (stands_with (mean g v) ls)) (asked g v);
-      meaning-kept = c.ask.ensures.meaning-kept;
+      some = c.is_some.ensures ∙ answer-tells (mean g v) c.as_slice.result.now c.in-Ok.found c.in-Ok.ensures.answer.1 ∙ ap (λ ls. some (mean g v).contacts (stands_with (mean g v) ls)) (asked g v);
+      meaning_kept = c.ask.ensures.meaning_kept;
       ordered = c.ask.ensures.ordered;
     }

@@ -8,10 +8,10 @@ use Rattle.queries.proofs.Answers.{items-few}
 use Rattle.terms.proofs.Turns.{Making, making_none, Turned, turned, turned_apart}
 use Rattle.terms.proofs.gather.Given as given
 use Rattle.terms.proofs.gather.Goals as goal
-use Rattle.terms.proofs.gather.Goals.{After-next-term}
+use Rattle.terms.proofs.gather.Goals.{After-next_term}
 
 -- a turn, and what it came to
-module _ (g : given.Over) (c : After-next-term g) where
+module _ (g : given.Over) (c : After-next_term g) where
   abbrev start : Meaning
   start = meaning_of g.M.Solver c.args.make.now
 
@@ -22,73 +22,73 @@ module _ (g : given.Over) (c : After-next-term g) where
   so_far = items c.loop-made.terms
 
   abbrev after : List Term
-  after = items c.next-term.new.terms
+  after = items c.next_term.new.terms
 
   abbrev last-now : List ℤ
   last-now = items c.loop-made.last
 
   abbrev last_then : List ℤ
-  last_then = items c.next-term.new.last
+  last_then = items c.next_term.new.last
 
   abbrev barred-now : Meaning
   barred-now = meaning_of g.M.Solver c.loop-made.make
 
   abbrev barred-after : Meaning
-  barred-after = meaning_of g.M.Solver c.next-term.new.make
+  barred-after = meaning_of g.M.Solver c.next_term.new.make
 
   small : start.contacts ≤ 32
-  small = (g.M.Solver.few c.args.make.now c.requires.make-ordered).1
+  small = (g.M.Solver.few c.args.make.now c.requires.make_ordered).1
 
-  ended : (r : Result Bool SheetFault) → c.next-term.result ≡ r → Turned start other so_far r after barred-after last_then
+  ended : (r : Result Bool SheetFault) → c.next_term.result ≡ r → Turned start other so_far r after barred-after last_then
   ended r e =
-      turned start other small c.requires.same-contacts barred-now so_far last-now (items-few c.loop-made.terms) c.loop-made.invariant.0 (meaning_of g.B.Solver c.loop-made.brk) barred-after r after last_then
-      c.loop-made.invariant.1 (sym e ∙ c.next-term.ensures.answer) c.next-term.ensures.placed c.next-term.ensures.barred c.next-term.ensures.last
+      turned start other small c.requires.same_contacts barred-now so_far last-now (items-few c.loop-made.terms) c.loop-made.invariant.0 (meaning_of g.B.Solver c.loop-made.brk) barred-after r after last_then
+      c.loop-made.invariant.1 (sym e ∙ c.next_term.ensures.answer) c.next_term.ensures.placed c.next_term.ensures.barred c.next_term.ensures.last
 
   apart : without_bars barred-after ≡ without_bars start
   apart =
-      turned_apart start other small c.requires.same-contacts barred-now so_far last-now (items-few c.loop-made.terms) c.loop-made.invariant.0 (meaning_of g.B.Solver c.loop-made.brk) barred-after c.loop-made.invariant.1 c.next-term.ensures.barred
+      turned_apart start other small c.requires.same_contacts barred-now so_far last-now (items-few c.loop-made.terms) c.loop-made.invariant.0 (meaning_of g.B.Solver c.loop-made.brk) barred-after c.loop-made.invariant.1 c.next_term.ensures.barred
 
-  kept : meaning_of g.B.Solver c.next-term.new.brk ≡ other
-  kept = c.next-term.ensures.break_kept ∙ c.loop-made.invariant.1
+  kept : meaning_of g.B.Solver c.next_term.new.brk ≡ other
+  kept = c.next_term.ensures.break_kept ∙ c.loop-made.invariant.1
 
 pub loop-made-init : goal.loop-made-init
 loop-made-init g c =
     let m : Meaning = meaning_of g.M.Solver c.args.make.now in
     let b : Meaning = meaning_of g.B.Solver c.args.brk.now in
-    (subst (Making m b m (items c.new-terms.result)) (sym c.new-last.ensures.empty) (subst (λ ts. Making m b m ts []) (sym c.new-terms.ensures.empty) (making_none m b c.requires.no_bars)), refl, c.requires.make-ordered, c.requires.break-ordered)
+    (subst (Making m b m (items c.new-terms.result)) (sym c.new-last.ensures.empty) (subst (λ ts. Making m b m ts []) (sym c.new-terms.ensures.empty) (making_none m b c.requires.no_bars)), refl, c.requires.make_ordered, c.requires.break_ordered)
 
-pub next-term-requires : goal.next-term-requires
-next-term-requires g c = record { make-ordered = c.loop-made.invariant.2; break-ordered = c.loop-made.invariant.3 }
+pub next_term-requires : goal.next_term-requires
+next_term-requires g c = record { make_ordered = c.loop-made.invariant.2; break_ordered = c.loop-made.invariant.3 }
 
 pub returns-then-not-made : goal.returns-then-not-made
 returns-then-not-made g c =
-    let v = (goal.at.returns-then-not-made g c).After-next-term in
+    let v = (goal.at.returns-then-not-made g c).After-next_term in
     record {
       answer = ended g v (Ok false) (c.in-Ok.is ∙ ap Ok c.if-not-made.true);
-      bars-apart = apart g v;
+      bars_apart = apart g v;
       break_kept = kept g v;
-      make-ordered = c.next-term.ensures.make-ordered;
-      break-ordered = c.next-term.ensures.break-ordered;
+      make_ordered = c.next_term.ensures.make_ordered;
+      break_ordered = c.next_term.ensures.break_ordered;
     }
 
 pub loop-made-smaller : goal.loop-made-smaller
 loop-made-smaller g c =
-    let v = (goal.at.loop-made-smaller g c).After-next-term in
+    let v = (goal.at.loop-made-smaller g c).After-next_term in
     let more = (ended g v (Ok true) (c.in-Ok.is ∙ ap Ok c.if-not-made.false)).1 in
-    omega (arith, items-few c.next-term.new.terms)
+    omega (arith, items-few c.next_term.new.terms)
 
 pub loop-made-preserved : goal.loop-made-preserved
 loop-made-preserved g c =
-    let v = (goal.at.loop-made-preserved g c).After-next-term in
-    ((ended g v (Ok true) (c.in-Ok.is ∙ ap Ok c.if-not-made.false)).0, kept g v, c.next-term.ensures.make-ordered, c.next-term.ensures.break-ordered)
+    let v = (goal.at.loop-made-preserved g c).After-next_term in
+    ((ended g v (Ok true) (c.in-Ok.is ∙ ap Ok c.if-not-made.false)).0, kept g v, c.next_term.ensures.make_ordered, c.next_term.ensures.break_ordered)
 
 pub returns-in-Err : goal.returns-in-Err
 returns-in-Err g c =
-    let v = (goal.at.returns-in-Err g c).After-next-term in
+    let v = (goal.at.returns-in-Err g c).After-next_term in
     record {
       answer = ended g v (Err c.in-Err.fault) c.in-Err.is;
-      bars-apart = apart g v;
+      bars_apart = apart g v;
       break_kept = kept g v;
-      make-ordered = c.next-term.ensures.make-ordered;
-      break-ordered = c.next-term.ensures.break-ordered;
+      make_ordered = c.next_term.ensures.make_ordered;
+      break_ordered = c.next_term.ensures.break_ordered;
     }

@@ -10,15 +10,15 @@ returns g c =
     let p : SheetMeaning = sheet_meaning g.M.Solver c.args.make.now in
     let q : SheetMeaning = sheet_meaning g.B.Solver c.args.brk.now in
     let out : List Term = c.args.out.now in
-    let steps = steps_told p q out c.requires.make-in-order.no_bars in
-    let answer = c.write-terms.ensures.answer ∙ ap entries_counted steps in
-    let buffer = c.write-terms.ensures.buffer ∙ ap (λ r. entries_written r out) steps in
+    let steps = steps_told p q out c.requires.make_in_order.no_bars in
+    let answer = c.write_terms.ensures.answer ∙ ap entries_counted steps in
+    let buffer = c.write_terms.ensures.buffer ∙ ap (λ r. entries_written r out) steps in
     record {
       answer = answer;
       buffer = buffer;
-      card = terms_written p q out c.write-terms.new.out c.write-terms.result buffer answer;
-      make_kept = c.write-terms.ensures.make_kept;
-      break_kept = c.write-terms.ensures.break_kept;
-      make-in-order = c.write-terms.ensures.make-in-order;
-      break-in-order = c.write-terms.ensures.break-in-order;
+      card = terms_written p q out c.write_terms.new.out c.write_terms.result buffer answer;
+      make_kept = c.write_terms.ensures.make_kept;
+      break_kept = c.write_terms.ensures.break_kept;
+      make_in_order = c.write_terms.ensures.make_in_order;
+      break_in_order = c.write_terms.ensures.break_in_order;
     }

@@ -11,15 +11,15 @@ loop-k-preserved c =
     let n = c.args.inputs in
     let next : 2 * k + 2 + 2 ≡ 2 * (k + 1) + 2 = omega arith in
     c.loop-k.invariant
-    ∙ input_step (n - k) (n - (k + 1)) (2 * k + 2) (ahead c.loop-k.words) (ahead c.due-line.new.words) (omega arith) c.in-ok-due-line.ensures.reads
-    ∙ ap (λ d. input_lines (n - (k + 1)) d (ahead c.due-line.new.words)) next
+    ∙ input_step (n - k) (n - (k + 1)) (2 * k + 2) (ahead c.loop-k.words) (ahead c.due_line.new.words) (omega arith) c.in_ok-due_line.ensures.reads
+    ∙ ap (λ d. input_lines (n - (k + 1)) d (ahead c.due_line.new.words)) next
 
-pub returns-in-err-due-line : goal.returns-in-err-due-line
-returns-in-err-due-line c =
-    let p = err_from_is_err_and c.from-residual.result c.from-residual.ensures.1 in
+pub returns-in_err-due_line : goal.returns-in_err-due_line
+returns-in_err-due_line c =
+    let p = err_from_is_err_and c.from_residual.result c.from_residual.ensures.1 in
     let k = c.loop-k.k in
     let n = c.args.inputs in
-    record { reads = rw (p.1, p.2) (c.loop-k.invariant ∙ input_fault (n - k) (n - (k + 1)) (2 * k + 2) (ahead c.loop-k.words) c.in-err-due-line.field-0.0 (omega arith) c.in-err-due-line.ensures.reads) }
+    record { reads = rw (p.1, p.2) (c.loop-k.invariant ∙ input_fault (n - k) (n - (k + 1)) (2 * k + 2) (ahead c.loop-k.words) c.in_err-due_line.field-0.0 (omega arith) c.in_err-due_line.ensures.reads) }
 
 pub returns : goal.returns
 returns c = record { reads = c.loop-k.invariant ∙ inputs_end (c.args.inputs - c.loop-k.k) (2 * c.loop-k.k + 2) (ahead c.loop-k.words) (omega arith) }

@@ -9,24 +9,24 @@ use Rattle.dimacs_load.proofs.passes.read_through.Goals as goal
 
 pub loop-preserved : goal.loop-preserved
 loop-preserved c =
-    let told = c.in-ok-rule.ensures in
+    let told = c.in_ok-rule.ensures in
     let s = c.loop.rules in
     let t = c.rule.new.self in
     let n = c.count-end.result in
     let left = n - (c.loop.counter + 1) in
-    let set = c.in-ok-rule.field-0 in
+    let set = c.in_ok-rule.field-0 in
     c.loop.invariant
     ∙ ap verdict (step s.vars (n - c.loop.counter) left s.behind (ahead s.words) (omega arith) t.behind (ahead t.words) set told.reads)
     ∙ same_verdict set (set_body s.vars left t.behind (ahead t.words))
     ∙ ap (λ v. verdict (set_body v left t.behind (ahead t.words))) (sym told.vars)
 
-pub returns-in-err-rule : goal.returns-in-err-rule
-returns-in-err-rule c =
-    let p = err_from_is_err_and c.from-residual.result c.from-residual.ensures.1 in
+pub returns-in_err-rule : goal.returns-in_err-rule
+returns-in_err-rule c =
+    let p = err_from_is_err_and c.from_residual.result c.from_residual.ensures.1 in
     let s = c.loop.rules in
     let n = c.count-end.result in
     record {
-      reads = rw (p.1, p.2) (sym (c.loop.invariant ∙ ap verdict (fault s.vars (n - c.loop.counter) (n - (c.loop.counter + 1)) s.behind (ahead s.words) (omega arith) c.in-err-rule.field-0.0 c.in-err-rule.ensures.reads)));
+      reads = rw (p.1, p.2) (sym (c.loop.invariant ∙ ap verdict (fault s.vars (n - c.loop.counter) (n - (c.loop.counter + 1)) s.behind (ahead s.words) (omega arith) c.in_err-rule.field-0.0 c.in_err-rule.ensures.reads)));
     }
 
 pub returns : goal.returns

@@ -11,17 +11,17 @@ returns-then-number-lt10 t c = record {
 }
 
 pub put-requires-2 : goal.put-requires-2
-put-requires-2 t c = omega (arith, length-decimal-le_succ (c.args.number / 10) (omega arith), c.put-number-next.ensures.next)
+put-requires-2 t c = omega (arith, length-decimal-le_succ (c.args.number / 10) (omega arith), c.put_number-next.ensures.next)
 
 pub returns : goal.returns
 returns t c =
     let s = c.args.out.now in
     let at = c.args.at in
     let n = c.args.number in
-    let first = c.put-number-next.ensures in
+    let first = c.put_number-next.ensures in
     record {
       bytes = c.put-2.ensures.bytes
-          ∙ ap (λ l. set l c.put-number-next.result (48 + n % 10)) first.bytes
+          ∙ ap (λ l. set l c.put_number-next.result (48 + n % 10)) first.bytes
           ∙ ap (λ i. set (over s at (decimal (n / 10))) i (48 + n % 10)) first.next
           ∙ sym (put_more s at n c.if-number-lt10.false (omega arith));
       next = omega (arith, c.put-2.ensures.next, first.next, length_more n c.if-number-lt10.false (omega arith));

@@ -13,12 +13,12 @@ loop-set-preserved c =
     let one = rule_text (listed V (get_or rs i no_literals)) in
     let rest = set_texts V (drop (i + 1) rs) in
     let step = ap (set_texts V) (from_place rs i no_literals c.loop-set-test.true) in
-    let told = c.put-rule-next.ensures in (
+    let told = c.put_rule-next.ensures in (
       c.loop-set.invariant.0
           ∙ ap (over c.loop-set.out c.loop-set.next) step
           ∙ over_append c.loop-set.out c.loop-set.next one rest
           ∙ ap (λ l. over l (c.loop-set.next + length one) rest) (sym told.bytes)
-          ∙ ap (λ n. over c.put-rule-next.new.out n rest) (sym told.next),
+          ∙ ap (λ n. over c.put_rule-next.new.out n rest) (sym told.next),
       omega (arith, c.loop-set.invariant.1, ap length step, length-append one rest, told.next),
       omega (arith, c.loop-set.invariant.2, told.most),
     )

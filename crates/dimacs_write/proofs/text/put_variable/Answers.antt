@@ -13,13 +13,13 @@ returns c =
     let cl = c.args.set.now in
     let xs = cond (has cl k true) (literal_text (literal_of false k)) [] in
     let ys = cond (has cl k false) (literal_text (literal_of true k)) [] in
-    let x = ap (λ b. cond b (literal_text (literal_of false k)) []) c.has-bit.ensures.set in
-    let y = ap (λ b. cond b (literal_text (literal_of true k)) []) c.has-bit-2.ensures.set in
-    let one = c.put-if-next.ensures in
-    let two = c.put-if.ensures in
+    let x = ap (λ b. cond b (literal_text (literal_of false k)) []) c.has_bit.ensures.set in
+    let y = ap (λ b. cond b (literal_text (literal_of true k)) []) c.has_bit-2.ensures.set in
+    let one = c.put_if-next.ensures in
+    let two = c.put_if.ensures in
     let there = one.next ∙ ap (λ l. at + length l) x in
     record {
-      bytes = put_both s c.put-if-next.new.out c.put-if.new.out at c.put-if-next.result xs ys (one.bytes ∙ ap (over s at) x) there (two.bytes ∙ ap (over c.put-if-next.new.out c.put-if-next.result) y);
-      next = omega (arith, there, two.next ∙ ap (λ l. c.put-if-next.result + length l) y, length-append xs ys);
+      bytes = put_both s c.put_if-next.new.out c.put_if.new.out at c.put_if-next.result xs ys (one.bytes ∙ ap (over s at) x) there (two.bytes ∙ ap (over c.put_if-next.new.out c.put_if-next.result) y);
+      next = omega (arith, there, two.next ∙ ap (λ l. c.put_if-next.result + length l) y, length-append xs ys);
       most = omega (arith, one.most, two.most);
     }

@@ -5,11 +5,11 @@ pub returns : goal.returns
 returns c =
     let V = c.args.vars in
     let sets = c.args.rules.now in
-    let told = c.put-whole.ensures in
-    let after = buffer V sets c.args.out.now c.put-whole.result c.put-whole.new.out told.answer told.buffer in
+    let told = c.put_whole.ensures in
+    let after = buffer V sets c.args.out.now c.put_whole.result c.put_whole.new.out told.answer told.buffer in
     record {
       answer = told.answer;
       buffer = after;
-      back = back V sets c.args.out.now c.put-whole.result c.put-whole.new.out told.answer after;
+      back = back V sets c.args.out.now c.put_whole.result c.put_whole.new.out told.answer after;
       again = λ text e. again text (V, sets) e;
     }

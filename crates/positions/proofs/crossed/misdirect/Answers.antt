@@ -4,13 +4,13 @@ use Rattle.trials.proofs.Steps.{ticket_good}
 use Rattle.positions.proofs.Alike.{handed_back}
 use Rattle.positions.proofs.crossed.misdirect.Goals as goal
 
-pub give-back-requires : goal.give-back-requires
-give-back-requires g c =
+pub give_back-requires : goal.give_back-requires
+give_back-requires g c =
     let v = g.S.Solver in
-    let a = c.in-ok-ticket.ensures in
+    let a = c.in_ok-ticket.ensures in
     let q = sheet_meaning v c.assume.new.self in
-    let good : is_some (held_at q c.in-ok-ticket.ticket) ≡ true = ticket_good (sheet_meaning v c.args.sheet.now) (pos 1) [] q q c.in-ok-ticket.ticket a.answer a.held refl in
+    let good : is_some (held_at q c.in_ok-ticket.ticket) ≡ true = ticket_good (sheet_meaning v c.args.sheet.now) (pos 1) [] q q c.in_ok-ticket.ticket a.answer a.held refl in
     record {
       in_order = a.in_order;
-      held = ap (λ t. is_some (held_at q t)) (handed_back _ c.in-ok-ticket.ticket c.in-Err.refused c.in-Err.ensures.answer) ∙ good;
+      held = ap (λ t. is_some (held_at q t)) (handed_back _ c.in_ok-ticket.ticket c.in-Err.refused c.in-Err.ensures.answer) ∙ good;
     }

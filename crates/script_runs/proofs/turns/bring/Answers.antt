@@ -12,8 +12,8 @@ use Rattle.script_runs.specs.Obeyed.{sided, release_reply, make_released, break_
 use Rattle.script_runs.proofs.Released.{spent, handed_back, put_again}
 use Rattle.script_runs.proofs.turns.bring.Goals as goal
 
-pub put-back-requires : goal.put-back-requires
-put-back-requires g c =
+pub put_back-requires : goal.put_back-requires
+put_back-requires g c =
     let ts = listed c.args.tickets.now in
     let size = length-remove ts c.args.place c.requires.there in
     let left = ap length c.take-ticket.ensures.others in
@@ -38,8 +38,8 @@ returns-in-Done g c =
       make_after = told.make_after ∙ ap (make_released side m) same;
       break_after = told.break_after ∙ ap (break_released side b) same;
       tickets = c.take-ticket.ensures.others ∙ spent s t ts place said ∙ ap (λ u. kept_after (held_at s u) ts place) same;
-      make-in-order = told.make-in-order;
-      break-in-order = told.break-in-order;
+      make_in_order = told.make_in_order;
+      break_in_order = told.break_in_order;
     }
 
 pub returns-in-Ticket : goal.returns-in-Ticket
@@ -61,11 +61,11 @@ returns-in-Ticket g c =
       answer = ap refused c.refusal.ensures.numbered ∙ ap (shown 0) said ∙ ap (λ v. shown 0 (release_reply s v)) same;
       make_after = told.make_after ∙ ap (make_released side m) same;
       break_after = told.break_after ∙ ap (break_released side b) same;
-      tickets = c.put-back.ensures.placed
+      tickets = c.put_back.ensures.placed
           ∙ ap (λ l. insert l place u) c.take-ticket.ensures.others
           ∙ ap (insert (remove ts place) place) (back.0 ∙ same)
           ∙ put_again ts place _ c.requires.there
           ∙ sym (ap (λ o. kept_after o ts place) (ap (held_at s) (sym same) ∙ back.1));
-      make-in-order = told.make-in-order;
-      break-in-order = told.break-in-order;
+      make_in_order = told.make_in_order;
+      break_in_order = told.break_in_order;
     }

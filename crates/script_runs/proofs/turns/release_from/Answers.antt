@@ -12,7 +12,7 @@ bring-requires g c =
     let b = sheet_meaning g.B.Solver c.args.brk.now in
     let own = c.requires.its_own in
     let here = present c.args.owner c.args.side m b c.args.number c.in-Some.place c.requires.labelled (c.in-Some.ensures.first ∙ ap (place_of c.args.number) own) in
-    record { make-in-order = c.requires.make-in-order; break-in-order = c.requires.break-in-order; there = subst (λ l. c.in-Some.place < length l) (sym own) here.there }
+    record { make_in_order = c.requires.make_in_order; break_in_order = c.requires.break_in_order; there = subst (λ l. c.in-Some.place < length l) (sym own) here.there }
 
 pub returns-in-None : goal.returns-in-None
 returns-in-None g c =
@@ -24,9 +24,9 @@ returns-in-None g c =
       make_after = gone.make_kept;
       break_after = gone.break_kept;
       its_own = c.requires.its_own;
-      others-own = refl;
-      make-in-order = c.requires.make-in-order;
-      break-in-order = c.requires.break-in-order;
+      others_own = refl;
+      make_in_order = c.requires.make_in_order;
+      break_in_order = c.requires.break_in_order;
     }
 
 pub returns-in-Some : goal.returns-in-Some
@@ -54,9 +54,9 @@ returns-in-Some g c =
           ∙ here.tickets
           ∙ ap (λ x. tickets_of (sided owner x (break_released side b t))) (sym make_now)
           ∙ ap (λ x. tickets_of (sided owner (sheet_meaning g.M.Solver c.bring.new.make) x)) (sym break_now);
-      others-own = ap (λ x. tickets_of (sided owner (sheet_meaning g.B.Solver c.bring.new.brk) x)) make_now
+      others_own = ap (λ x. tickets_of (sided owner (sheet_meaning g.B.Solver c.bring.new.brk) x)) make_now
           ∙ ap (λ x. tickets_of (sided owner x (make_released side m t))) break_now
           ∙ here.others;
-      make-in-order = told.make-in-order;
-      break-in-order = told.break-in-order;
+      make_in_order = told.make_in_order;
+      break_in_order = told.break_in_order;
     }

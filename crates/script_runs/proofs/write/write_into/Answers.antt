@@ -5,7 +5,7 @@ use Rattle.script_runs.proofs.write.write_into.Goals as goal
 
 pub returns : goal.returns
 returns c =
-    let lent = c.as-mut-slice.ensures.value in
+    let lent = c.as_mut_slice.ensures.value in
     let vars = c.args.vars in
     let rules = c.args.rules.now in
     record {

@@ -8,7 +8,7 @@ use Rattle.scripts.proofs.read.read_literals.Goals as goal
 pub loop-word-preserved : goal.loop-word-preserved
 loop-word-preserved c =
     let xs = vec_items c.loop-word.literals in
-    let left = words_ahead c.next-word.new.words in
+    let left = words_ahead c.next_word.new.words in
     let pushed : vec_items c.push.new.self ≡ xs ++ c.in-Some-literal.l ∷ [] = search rules in
     c.loop-word.invariant
     ∙ ap (λ ws. option_map (λ ls. xs ++ ls) (literals_of ws)) c.in-Some.ensures.gives

@@ -5,19 +5,19 @@ use Rattle.session.proofs.pairs.serve_both.Goals as goal
 
 pub returns : goal.returns
 returns g c =
-    let served = c.serve-each.ensures in
-    let first = result_goes_on g.M.Solver g.B.Solver _ _ _ _ _ _ served.first-served in
-    let second = result_goes_on g.N.Solver g.C.Solver _ _ _ _ _ _ served.second-served in
+    let served = c.serve_each.ensures in
+    let first = result_goes_on g.M.Solver g.B.Solver _ _ _ _ _ _ served.first_served in
+    let second = result_goes_on g.N.Solver g.C.Solver _ _ _ _ _ _ served.second_served in
     record {
-      first-guarantee = first;
-      second-guarantee = second;
-      same-responses = λ start start' past past' s s' alike before same.
-          both_served c.serve-each.result.first c.serve-each.result.second _ _ _ _ _ _ _ _
-          (served.first-served (after start (calls_of past)) s.here) (first start past s)
-          (served.second-served (after start' (calls_of past')) s'.here) (second start' past' s')
+      first_guarantee = first;
+      second_guarantee = second;
+      same_responses = λ start start' past past' s s' alike before same.
+          both_served c.serve_each.result.first c.serve_each.result.second _ _ _ _ _ _ _ _
+          (served.first_served (after start (calls_of past)) s.here) (first start past s)
+          (served.second_served (after start' (calls_of past')) s'.here) (second start' past' s')
           (λ a b d t d' t'. same_said start start' past past' _ _ _ _ d.as_many d'.as_many s'.new alike before same s.guaranteed s'.guaranteed t.guaranteed t'.guaranteed);
-      make-in-order = served.make-in-order;
-      break-in-order = served.break-in-order;
-      spare-make-in-order = served.spare-make-in-order;
-      spare-break-in-order = served.spare-break-in-order;
+      make_in_order = served.make_in_order;
+      break_in_order = served.break_in_order;
+      spare_make_in_order = served.spare_make_in_order;
+      spare_break_in_order = served.spare_break_in_order;
     }

@@ -2,4 +2,4 @@ use Rattle.session.proofs.Beginning.{beginning}
 use Rattle.session.proofs.start.begin.Goals as goal
 
 pub returns : goal.returns
-returns g c = record { stands-at-the-start = beginning g.M.Solver g.B.Solver c.args.make.now c.args.brk.now }
+returns g c = record { stands_at_the_start = beginning g.M.Solver g.B.Solver c.args.make.now c.args.brk.now }

@@ -3,13 +3,13 @@ use Rattle.session.proofs.turns.take_turn.Goals as goal
 
 pub returns : goal.returns
 returns g c =
-    let served = c.serve-request.ensures in
+    let served = c.serve_request.ensures in
     record {
       answer = served.answer;
       make_after = served.make_after;
       break_after = served.break_after;
-      by_the_model = mirrored g.M.Solver g.B.Solver _ _ _ _ c.requires.make-in-order c.requires.break-in-order c.args.request c.serve-request.result served.answer served.make_after served.break_after;
-      guarantee = goes_on g.M.Solver g.B.Solver _ _ _ _ c.requires.make-in-order c.requires.break-in-order c.args.request c.serve-request.result served.answer served.make_after served.break_after;
-      make-in-order = served.make-in-order;
-      break-in-order = served.break-in-order;
+      by_the_model = mirrored g.M.Solver g.B.Solver _ _ _ _ c.requires.make_in_order c.requires.break_in_order c.args.request c.serve_request.result served.answer served.make_after served.break_after;
+      guarantee = goes_on g.M.Solver g.B.Solver _ _ _ _ c.requires.make_in_order c.requires.break_in_order c.args.request c.serve_request.result served.answer served.make_after served.break_after;
+      make_in_order = served.make_in_order;
+      break_in_order = served.break_in_order;
     }

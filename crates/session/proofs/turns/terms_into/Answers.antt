@@ -7,7 +7,7 @@ use Rattle.session.proofs.turns.terms_into.Goals as goal
 
 pub returns : goal.returns
 returns g c =
-    let lent = c.as-mut-slice.ensures.value in
+    let lent = c.as_mut_slice.ensures.value in
     let make = sheet_meaning g.M.Solver c.args.make.now in
     let brk = sheet_meaning g.B.Solver c.args.brk.now in
     record {
@@ -15,6 +15,6 @@ returns g c =
       buffer = came_back _ _ _ (omega arith) ∙ c.terms.ensures.buffer ∙ ap (λ out. entries_written (terms_answer make brk (length out)) out) lent;
       make_kept = c.terms.ensures.make_kept;
       break_kept = c.terms.ensures.break_kept;
-      make-in-order = c.terms.ensures.make-in-order;
-      break-in-order = c.terms.ensures.break-in-order;
+      make_in_order = c.terms.ensures.make_in_order;
+      break_in_order = c.terms.ensures.break_in_order;
     }

@@ -10,7 +10,7 @@ use Rattle.settings.proofs.Setting.any_held.Goals.{After-has}
 -- what the test said of the contact itself
 tested : (c : After-has) (b : Bool) → c.has.result ≡ b → has c.args.set c.loop-index.index (not (beq (get_or (reading c.args.n c.args.self) c.loop-index.index false) c.args.opposed)) ≡ b
 tested c b h =
-    ap (λ a. has c.args.set c.loop-index.index (not (beq a c.args.opposed))) (sym c.is-closed.ensures.closed) ∙ sym c.has.ensures.held ∙ h
+    ap (λ a. has c.args.set c.loop-index.index (not (beq a c.args.opposed))) (sym c.is_closed.ensures.closed) ∙ sym c.has.ensures.held ∙ h
 
 pub returns-then-has : goal.returns-then-has
 returns-then-has c =

@@ -4,8 +4,8 @@ use Rattle.settings.specs.TermRecords.{signed_at, wanted}
 use Rattle.settings.proofs.Wanted.{front_length, front_more, front_all}
 use Rattle.settings.proofs.Term.literals.Goals as goal
 
-pub place-wanted-requires : goal.place-wanted-requires
-place-wanted-requires c =
+pub place_wanted-requires : goal.place_wanted-requires
+place_wanted-requires c =
     record {
       contact = c.loop-index-test.true;
       few = omega (arith, c.min-count.ensures);
@@ -17,7 +17,7 @@ loop-index-preserved c =
     let n = c.min-count.result in
     let i = c.loop-index.index in
     let t = c.args.self in
-    c.place-wanted.ensures.placed
+    c.place_wanted.ensures.placed
     ∙ ap (λ ls. ls ++ signed_at i (bit t.closed (n - 1 - i)) (bit t.opened (n - 1 - i))) c.loop-index.invariant
     ∙ sym (front_more n t i c.loop-index-test.true)
 

@@ -16,5 +16,5 @@ returns-in-None g c =
     record {
       answer = ap Ok c.hold.ensures.ticket ∙ sym (ap (assume_answer p) fine);
       held = more ∙ sym (ap (after_assume p l) fine);
-      in_order = in_order_held v x c.hold.new.self c.hold.ensures.solver-kept c.requires.in_order l more fine;
+      in_order = in_order_held v x c.hold.new.self c.hold.ensures.solver_kept c.requires.in_order l more fine;
     }

@@ -5,9 +5,9 @@ use Rattle.sheets.proofs.Sheet.least.Goals as goal
 pub returns : goal.returns
 returns g c =
     record {
-      answer = c.write-least.ensures.answer;
-      buffer = c.write-least.ensures.buffer;
-      earliest = least_written (sheet_meaning g.S.Solver c.args.self.now) c.args.out.now c.write-least.new.out c.write-least.result c.write-least.ensures.buffer c.write-least.ensures.answer;
-      meaning-kept = c.write-least.ensures.meaning-kept;
-      in_order = c.write-least.ensures.in_order;
+      answer = c.write_least.ensures.answer;
+      buffer = c.write_least.ensures.buffer;
+      earliest = least_written (sheet_meaning g.S.Solver c.args.self.now) c.args.out.now c.write_least.new.out c.write_least.result c.write_least.ensures.buffer c.write_least.ensures.answer;
+      meaning_kept = c.write_least.ensures.meaning_kept;
+      in_order = c.write_least.ensures.in_order;
     }

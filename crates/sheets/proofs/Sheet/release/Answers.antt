@@ -10,9 +10,9 @@ returns-in-Some g c =
     let p = sheet_meaning v x in
     let t = c.args.ticket in
     let place = c.in-Some.place in
-    let at : held_at p t ≡ Some place = sym c.place-for.ensures.place ∙ c.in-Some.is in
+    let at : held_at p t ≡ Some place = sym c.place_for.ensures.place ∙ c.in-Some.is in
     record {
       answer = sym (ap (λ o. release_answer o t) at);
       released = c.strike.ensures.struck ∙ sym (ap (after_release p) at);
-      in_order = in_order_without v x c.strike.new.self c.strike.ensures.solver-kept c.requires.in_order place c.strike.ensures.struck;
+      in_order = in_order_without v x c.strike.new.self c.strike.ensures.solver_kept c.requires.in_order place c.strike.ensures.struck;
     }

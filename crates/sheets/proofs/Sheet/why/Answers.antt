@@ -5,9 +5,9 @@ use Rattle.sheets.proofs.Sheet.why.Goals as goal
 pub returns : goal.returns
 returns g c =
     record {
-      answer = c.write-why.ensures.answer;
-      buffer = c.write-why.ensures.buffer;
-      smallest = why_written (sheet_meaning g.S.Solver c.args.self.now) c.args.out.now c.write-why.new.out c.write-why.result c.write-why.ensures.buffer c.write-why.ensures.answer;
-      meaning-kept = c.write-why.ensures.meaning-kept;
-      in_order = c.write-why.ensures.in_order;
+      answer = c.write_why.ensures.answer;
+      buffer = c.write_why.ensures.buffer;
+      smallest = why_written (sheet_meaning g.S.Solver c.args.self.now) c.args.out.now c.write_why.new.out c.write_why.result c.write_why.ensures.buffer c.write_why.ensures.answer;
+      meaning_kept = c.write_why.ensures.meaning_kept;
+      in_order = c.write_why.ensures.in_order;
     }

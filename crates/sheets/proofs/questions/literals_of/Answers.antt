@@ -15,9 +15,9 @@ pub loop-assumption-preserved : goal.loop-assumption-preserved
 loop-assumption-preserved c =
     let t = c.args.held.now in
     let i = c.loop-assumption.assumption-index in
-    let s = c.as-slice-assumption-items.result.now in
+    let s = c.as_slice-assumption-items.result.now in
     let its = items c.loop-assumption.literals in
-    let same : s ≡ items t = c.as-slice-assumption-items.ensures.entries in
+    let same : s ≡ items t = c.as_slice-assumption-items.ensures.entries in
     let lt : i < length (items t) = omega (arith, c.loop-assumption-test.true, ap length same) in
     let fit : SFits w8 (get_or s i no_one).literal = search rules in
     let read : to_z w8 (of_z w8 (get_or s i no_one).literal) ≡ (get_or (items t) i no_one).literal = to_z-of_z w8 (get_or s i no_one).literal fit ∙ ap (λ xs. (get_or xs i no_one).literal) same in
@@ -29,4 +29,4 @@ loop-assumption-preserved c =
 pub returns : goal.returns
 returns c =
     let t = c.args.held.now in
-    record { listed = c.loop-assumption.invariant ∙ ap held_literals (take_all c.loop-assumption.assumption-index (items t) (omega (arith, c.loop-assumption-test.false, ap length c.as-slice-assumption-items.ensures.entries))) }
+    record { listed = c.loop-assumption.invariant ∙ ap held_literals (take_all c.loop-assumption.assumption-index (items t) (omega (arith, c.loop-assumption-test.false, ap length c.as_slice-assumption-items.ensures.entries))) }

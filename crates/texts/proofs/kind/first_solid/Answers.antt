@@ -10,11 +10,11 @@ at_byte text i passed lt e =
     let first : first_solid (drop i text) ≡ cond (blank (get_or text i 0)) (first_solid (drop (i + 1) text)) (Some (get_or text i 0)) = at_drop_more first_solid text i 0 lt in
     first ∙ ap (λ v. cond v (first_solid (drop (i + 1) text)) (Some (get_or text i 0))) (sym e)
 
-pub returns-then-not-is-blank : goal.returns-then-not-is-blank
-returns-then-not-is-blank c = record { first = sym (at_byte c.args.text.now c.loop-byte.byte-index _ c.loop-byte-test.true c.if-not-is-blank.ensures.value) ∙ c.loop-byte.invariant }
+pub returns-then-not-is_blank : goal.returns-then-not-is_blank
+returns-then-not-is_blank c = record { first = sym (at_byte c.args.text.now c.loop-byte.byte-index _ c.loop-byte-test.true c.if-not-is_blank.ensures.value) ∙ c.loop-byte.invariant }
 
 pub loop-byte-preserved : goal.loop-byte-preserved
-loop-byte-preserved c = sym (at_byte c.args.text.now c.loop-byte.byte-index _ c.loop-byte-test.true c.if-not-is-blank.ensures.value) ∙ c.loop-byte.invariant
+loop-byte-preserved c = sym (at_byte c.args.text.now c.loop-byte.byte-index _ c.loop-byte-test.true c.if-not-is_blank.ensures.value) ∙ c.loop-byte.invariant
 
 pub returns : goal.returns
 returns c = record { first = sym (at_drop_all first_solid c.args.text.now c.loop-byte.byte-index c.loop-byte-test.false) ∙ c.loop-byte.invariant }

@@ -5,8 +5,8 @@ use Rattle.tickets.specs.Tickets.{tickets_of, none_held}
 use Rattle.tickets.proofs.Returned.{Returned, first_returned, all_returned}
 use Rattle.tickets.proofs.calls.give_each_back.Goals as goal
 
-pub give-back-requires : goal.give-back-requires
-give-back-requires g c =
+pub give_back-requires : goal.give_back-requires
+give_back-requires g c =
     let p = sheet_meaning g.S.Solver c.loop-sheet.sheet in
     let ts = vec_items c.loop-sheet.left in
     let some : 0 < length ts = search rules in
@@ -18,10 +18,10 @@ loop-sheet-preserved g c =
     let ts = vec_items c.loop-sheet.left in
     let some : 0 < length ts = search rules in
     let back = first_returned p ts c.remove.result some c.loop-sheet.invariant.0 c.remove.ensures.value in
-    let after = c.give-back.ensures.released in (
+    let after = c.give_back.ensures.released in (
       c.remove.ensures.items ∙ back.left ∙ ap tickets_of (sym after),
       ap none_held after ∙ back.kept ∙ c.loop-sheet.invariant.1,
-      c.give-back.ensures.in_order,
+      c.give_back.ensures.in_order,
     )
 
 pub returns : goal.returns

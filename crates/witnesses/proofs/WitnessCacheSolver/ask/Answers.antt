@@ -17,11 +17,11 @@ returns-in-Some-recall g c =
     let ls = c.args.literals.now in
     let n = c.contacts-n.ensures.count in
     let s = c.in-Some-recall.setting in
-    let named : first_unnamed m.contacts ls ≡ None = ap (λ k. first_unnamed k ls) (sym n) ∙ sym c.find-unnamed.ensures.first ∙ c.in-default.is in
+    let named : first_unnamed m.contacts ls ≡ None = ap (λ k. first_unnamed k ls) (sym n) ∙ sym c.find_unnamed.ensures.first ∙ c.in_default.is in
     let found : recalled m.contacts ls held ≡ Some s = ap (λ k. recalled k ls held) (sym n) ∙ sym c.recall.ensures.oldest ∙ c.in-Some-recall.is in
     record {
       answer = (ap (λ (o : Option _). elim o [ None ↦ None | Some place ↦ Some (BadLiteral place) ]) named, recalled_answers m ls held s c.requires.ordered.1 found);
-      meaning-kept = refl;
+      meaning_kept = refl;
       ordered = c.requires.ordered;
       recalls = subst (ByRecall before (Some s) before) (sym found) (refl, refl);
     }
@@ -32,12 +32,12 @@ returns g c =
     let before = c.args.self.now in
     let held = items before.seen in
     let ls = c.args.literals.now in
-    let told = c.in-ok-answer.ensures.answer in
-    let missed : recalled m.contacts ls held ≡ None = ap (λ k. recalled k ls held) (sym c.contacts-n.ensures.count) ∙ sym c.recall.ensures.oldest ∙ c.in-default-recall.is in
-    let all : all_stand m (items c.note.new.seen) ≡ true = ap (all_stand m) c.note.ensures.noted ∙ all_noted m ls held c.in-ok-answer.answer c.requires.ordered.1 told.1 in
+    let told = c.in_ok-answer.ensures.answer in
+    let missed : recalled m.contacts ls held ≡ None = ap (λ k. recalled k ls held) (sym c.contacts-n.ensures.count) ∙ sym c.recall.ensures.oldest ∙ c.in_default-recall.is in
+    let all : all_stand m (items c.note.new.seen) ≡ true = ap (all_stand m) c.note.ensures.noted ∙ all_noted m ls held c.in_ok-answer.answer c.requires.ordered.1 told.1 in
     record {
       answer = told;
-      meaning-kept = c.ask.ensures.meaning-kept;
-      ordered = (c.ask.ensures.ordered, ap (λ k. all_stand k (items c.note.new.seen)) c.ask.ensures.meaning-kept ∙ all);
-      recalls = subst (ByRecall before c.in-ok-answer.answer (record { below = c.ask.new.self; seen = c.note.new.seen })) (sym missed) c.note.ensures.noted;
+      meaning_kept = c.ask.ensures.meaning_kept;
+      ordered = (c.ask.ensures.ordered, ap (λ k. all_stand k (items c.note.new.seen)) c.ask.ensures.meaning_kept ∙ all);
+      recalls = subst (ByRecall before c.in_ok-answer.answer (record { below = c.ask.new.self; seen = c.note.new.seen })) (sym missed) c.note.ensures.noted;
     }

@@ -9,7 +9,7 @@ pub returns : goal.returns
 returns g c =
     let held = items c.args.self.now.seen in
     record {
-      bars-emptied = c.clear.ensures.bars-emptied;
-      ordered = (c.clear.ensures.ordered, subst (λ m. all_stand m held ≡ true) (sym c.clear.ensures.bars-emptied) (all_cleared (meaning_of g.S.Solver c.args.self.now.below) held c.requires.ordered.1));
+      bars_emptied = c.clear.ensures.bars_emptied;
+      ordered = (c.clear.ensures.ordered, subst (λ m. all_stand m held ≡ true) (sym c.clear.ensures.bars_emptied) (all_cleared (meaning_of g.S.Solver c.args.self.now.below) held c.requires.ordered.1));
       held_kept = refl;
     }

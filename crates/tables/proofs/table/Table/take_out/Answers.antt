@@ -13,5 +13,5 @@ parts none front whole s xs i same e f w =
 
 pub returns : goal.returns
 returns g c = record {
-  taken = parts (items c.new-rest.result) (items c.place-all.new.self) (items c.place-all-2.new.self) c.as-slice-all.result.now (items c.args.self.now) c.args.place c.as-slice-all.ensures.entries c.new-rest.ensures.empty c.place-all.ensures.placed c.place-all-2.ensures.placed;
+  taken = parts (items c.new-rest.result) (items c.place_all.new.self) (items c.place_all-2.new.self) c.as_slice-all.result.now (items c.args.self.now) c.args.place c.as_slice-all.ensures.entries c.new-rest.ensures.empty c.place_all.ensures.placed c.place_all-2.ensures.placed;
 }
