@@ -1,4 +1,6 @@
 // The rules and bars that were added to a solver, of whatever kind it is.
+#![tactic(auto)]
+
 ghost use Rattle.std.specs.Prelude.{◌≡◌, [], ◌∷◌};
 ghost use Rattle.tables.specs.Tables.{items};
 ghost use Rattle.settings.specs.Readings.{reading};

@@ -1,5 +1,7 @@
 // Reads gate texts in AIGER ASCII form: a heading `aag M I L O A`, lines of inputs, one output and A gates.
 // Gates are read only from a text whose heading was accepted: `Opening::heading` spends the opening.
+#![tactic(auto)]
+
 ghost use Rattle.std.specs.Prelude.{◌≡◌};
 
 mod body;

@@ -1,4 +1,6 @@
 // Loads a gate text into a store that the caller brings: the store's front holds the gates then.
+#![tactic(auto)]
+
 mod calls;
 mod passes;
 

@@ -1,4 +1,6 @@
 // The choice of an input to try next. Of the way to it nothing is promised; of the choice only that it is undecided.
+#![tactic(auto)]
+
 ghost use Rattle.std.specs.Prelude.{false};
 ghost use Rattle.rules.specs.Rules.{Choice};
 

@@ -1,4 +1,6 @@
 // Clause texts from their bytes to their least setting.
+#![tactic(auto)]
+
 ghost use Rattle.std.specs.Prelude.{◌≡◌, length};
 ghost use Rattle.dimacs.specs.Cnf.{read_cnf};
 ghost use Rattle.clause_texts.specs.Allowed.{TextLaw};

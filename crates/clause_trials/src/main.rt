@@ -1,4 +1,6 @@
 // Compares the clause solver with a plain look through all values of the variables, on pseudo-random rules.
+#![tactic(auto)]
+
 ghost use Rattle.std.specs.Prelude.{◌<◌, ◌≤◌};
 
 use clauses::ClauseSolver;

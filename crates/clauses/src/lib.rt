@@ -1,4 +1,6 @@
 // The clause solver: a setting is in its base set when some values of the inner variables, numbered above the contacts, meet all loaded rules together with it.
+#![tactic(auto)]
+
 ghost use Rattle.std.specs.Prelude.{◌≡◌, ℕ, ◌+◌, ◌≤◌, None};
 ghost use Rattle.literals.specs.Literals.{first_unnamed};
 ghost use Rattle.solver.specs.Meaning.{Answers};

@@ -1,4 +1,6 @@
 // Loads each text of the tables, and prints the rows that come out otherwise than the two formats ask for.
+#![tactic(auto)]
+
 use gate_rows::{GATE_ROWS, HEADING_ROWS, INPUT_ROWS};
 use heading_rows::{COMMENT_ROWS, COUNT_ROWS, FORMAT_ROWS, VARIABLE_ROWS};
 use loads::Format::{Clauses, Gates};

@@ -1,5 +1,7 @@
 // Reads clause texts in DIMACS CNF form: comment lines, a heading `p cnf V C`, and C rules over V variables.
 // Rules are read only from a text whose heading was accepted: `Opening::heading` spends the opening.
+#![tactic(auto)]
+
 ghost use Rattle.std.specs.Prelude.{◌≡◌};
 
 mod body;

@@ -1,4 +1,6 @@
 // Loads a clause text into a store that the caller brings: the store's front holds the rules then.
+#![tactic(auto)]
+
 mod calls;
 mod passes;
 

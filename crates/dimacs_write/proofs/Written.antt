@@ -1,5 +1,5 @@
 -- What a write leaves in the buffer, and what that reads as.
-use Rattle.std.proofs.Common.{◌≡◌, ℕ, ◌+◌, ◌-◌, ◌≤◌, Bool, true, false, cond, ◌&&◌, leb, List, [], ◌∷◌, ◌++◌, map, length, take, drop, set, Ok, Err, Result, sym, refl, ap, ◌∙◌, subst, append_assoc, add-zero, zero-add, arith, length-set, take-append-drop}
+use Rattle.std.proofs.Common.{◌≡◌, ℕ, ◌+◌, ◌≤◌, Bool, true, false, cond, ◌&&◌, leb, List, [], ◌∷◌, ◌++◌, map, length, take, drop, set, Ok, Err, Result, sym, refl, ap, ◌∙◌, subst, append_assoc, add-zero, zero-add, arith, length-set, take-append-drop}
 use lib.ListN.{length-map}
 use lib.Seq.{take-append_seam}
 use Rattle.std.specs.List.{AllByRecursion as All}

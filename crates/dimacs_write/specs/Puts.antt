@@ -1,5 +1,5 @@
 -- Bytes put into a buffer, one after another.
-use Rattle.std.specs.Prelude.{ℕ, suc, ◌+◌, Bool, true, false, cond, List, [], ◌∷◌, ◌++◌, set, ℤ, pos, negsuc, Ok, Err, Result, slice_set}
+use Rattle.std.specs.Prelude.{ℕ, suc, ◌+◌, Bool, true, false, cond, List, [], ◌∷◌, ◌++◌, ℤ, pos, negsuc, Ok, Err, Result, slice_set}
 use Rattle.faults.specs.declared.SheetFault.{SheetFault}
 use Rattle.literals.specs.declared.LiteralSet.{LiteralSet}
 use Rattle.literals.specs.Literals.{has}

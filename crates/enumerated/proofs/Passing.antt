@@ -1,13 +1,12 @@
 -- The first setting of a list that passes answers whether any setting of the base set does.
-use Rattle.std.proofs.Common.{◌≡◌, ℕ, Bool, true, false, cond, not, ◌&&◌, ◌||◌, List, [], ◌∷◌, ℤ, Some, None, Option, sym, refl, ap, ◌∙◌}
-use mathlib.Core.Bool.{beq}
+use Rattle.std.proofs.Common.{◌≡◌, ℕ, Bool, true, false, cond, ◌&&◌, ◌||◌, List, [], ◌∷◌, ℤ, Some, None, Option, sym, refl, ap, ◌∙◌}
 use Rattle.std.proofs.lemmas.Bool.{and_parts, and_from, or_left, or_right, false≢true}
 use Rattle.settings.specs.declared.Setting.{Setting}
 use Rattle.settings.specs.Settings.{fits}
 use Rattle.settings.specs.Readings.{reading, first_passing}
 use Rattle.additions.specs.declared.Additions.{Additions}
 use Rattle.additions.specs.Additions.{meaning_with, passes}
-use Rattle.solver.specs.Meaning.{Meaning, Answers, stands_with}
+use Rattle.solver.specs.Meaning.{Answers, stands_with}
 use Rattle.laws.proofs.Least.{none_from}
 use Rattle.enumerated.specs.Enumerated.{same_setting, listed, passes_with}
 use Rattle.literals.proofs.Booleans.{and_assoc}

@@ -1,4 +1,6 @@
 // The smallest solver that meets the contract of all: it looks through a plain list of allowed settings.
+#![tactic(auto)]
+
 ghost use Rattle.std.specs.Prelude.{◌≡◌};
 ghost use Rattle.settings.specs.Readings.{reading, first_passing};
 ghost use Rattle.additions.specs.Additions.{rules_of, bars_of, meaning_with};

@@ -1,4 +1,6 @@
 // What a call refuses with: a fault of a lower layer lies whole inside that of the layer above.
+#![tactic(auto)]
+
 ghost use Rattle.std.specs.Prelude.{◌≡◌};
 ghost use Rattle.faults.specs.Refusals.{text_refusal, store_refusal, solver_refusal, sheet_refusal};
 ghost use Rattle.faults.specs.declared.StoreFault.TheVariants.{Text as InText};

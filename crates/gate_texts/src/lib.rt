@@ -1,4 +1,6 @@
 // Gate texts from their bytes to their least setting.
+#![tactic(auto)]
+
 ghost use Rattle.std.specs.Prelude.{◌≡◌, length};
 ghost use Rattle.aiger.specs.Aag.{read_aag};
 ghost use Rattle.gate_texts.specs.Answer.{text_least, network_least};

@@ -1,5 +1,5 @@
 -- What the search answers is what ASK promises.
-use Rattle.std.proofs.Common.{◌≡◌, ℕ, ◌≤◌, Bool, true, false, ◌&&◌, List, length, ℤ, Some, None, sym, ap, ◌∙◌, arith}
+use Rattle.std.proofs.Common.{◌≡◌, Bool, ◌&&◌, List, length, ℤ, Some, None, sym, ap, ◌∙◌, arith}
 use Rattle.literals.specs.Literals.{first_unnamed, set_of}
 use Rattle.settings.proofs.Sets.{sets_law}
 use Rattle.laws.proofs.Least.{some_alike}

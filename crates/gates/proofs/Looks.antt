@@ -1,8 +1,7 @@
 -- What a look at an assignment tells of the settings that stand.
-use Rattle.std.proofs.Common.{◌≡◌, ℕ, ◌+◌, ◌<◌, ◌≤◌, Bool, true, false, not, ◌&&◌, ◌||◌, List, length, get_or, take, Some, None, sym, refl, ap, ◌∙◌, subst, ⊎_elim, arith, take_all}
+use Rattle.std.proofs.Common.{◌≡◌, ℕ, ◌+◌, ◌<◌, Bool, true, false, not, ◌||◌, List, length, get_or, take, Some, None, sym, refl, ap, ◌∙◌, subst, ⊎_elim, arith, take_all}
 use Rattle.std.proofs.lemmas.List.FromFn.{fill_by_all}
 use Rattle.std.proofs.lemmas.Bool.{and_parts, both_ways}
-use Rattle.std.proofs.lemmas.Bool.Decides.{nat_tests}
 use Rattle.literals.specs.Bits.{bit}
 use Rattle.literals.specs.Literals.{has}
 use Rattle.additions.specs.Additions.{passes}
@@ -13,10 +12,9 @@ use Rattle.search.specs.Search.{Says, Narrows}
 use Rattle.search.proofs.Assignments.{reading_low, same_not}
 use Rattle.search.proofs.Pointwise.{covers_out}
 use Rattle.settings.specs.Readings.{reading}
-use Rattle.rules.specs.declared.Scan.{Scan}
-use Rattle.rules.specs.declared.Scan.TheVariants.{Failed, Forced, Quiet}
+use Rattle.rules.specs.declared.Scan.TheVariants.{Failed, Forced}
 use Rattle.rules.proofs.Sums.{Sums, sums_both}
-use Rattle.networks.specs.Circuits.{circuit_allows, computed}
+use Rattle.networks.specs.Circuits.{circuit_allows}
 use Rattle.networks.proofs.Circuits.{computed_input}
 use Rattle.implications.specs.declared.Implied.{Implied}
 use Rattle.implications.specs.Ternaries.{narrowed}

@@ -1,4 +1,6 @@
 // The gate solver: a setting is in its base set when the network's output is 1 with the contacts as inputs. It works on the gate records themselves.
+#![tactic(auto)]
+
 ghost use Rattle.std.specs.Prelude.{◌≡◌, ◌≤◌, true, None};
 ghost use Rattle.literals.specs.Literals.{first_unnamed};
 ghost use Rattle.settings.specs.Readings.{reading};

@@ -1,5 +1,5 @@
 -- What follows from an assignment is right at each setting that the circuit allows and that agrees with it.
-use Rattle.std.proofs.Common.{◌≡◌, ℕ, zero, suc, ◌+◌, ◌/◌, ◌<◌, ◌≤◌, Bool, true, false, cond, not, List, length, get_or, set, replicate, sym, refl, ap, ◌∙◌, subst, arith}
+use Rattle.std.proofs.Common.{◌≡◌, ℕ, zero, suc, ◌+◌, ◌/◌, ◌<◌, Bool, true, false, cond, not, List, length, get_or, set, replicate, sym, refl, ap, ◌∙◌, subst, arith}
 use Rattle.std.proofs.lemmas.Bool.{both_ways}
 use Rattle.literals.specs.Bits.{bit}
 use Rattle.literals.specs.Literals.{has}
@@ -8,7 +8,7 @@ use Rattle.search.specs.Assignments.{agreeing, taken}
 use Rattle.search.proofs.Pointwise.{covers_out}
 use Rattle.networks.specs.declared.Circuit.{Circuit}
 use Rattle.networks.specs.Circuits.{Small, circuit_allows, computed, value_in, readable}
-use Rattle.networks.proofs.Circuits.{computed_obeys, computed_zero, computed_input, computed_output}
+use Rattle.networks.proofs.Circuits.{computed_zero, computed_input, computed_output}
 use Rattle.implications.specs.declared.Ternary.{Ternary}
 use Rattle.implications.specs.declared.Ternary.TheVariants.{Unknown, Zero, One}
 use Rattle.implications.specs.declared.Progress.{Progress}

@@ -1,5 +1,5 @@
 -- What is known of the variables of a network, step by step.
-use Rattle.std.specs.Prelude.{ℕ, zero, suc, ◌+◌, ◌*◌, ◌/◌, ◌%◌, Bool, true, false, cond, List, Some, None, Option, ◌==◌, slice_index_or, slice_set}
+use Rattle.std.specs.Prelude.{ℕ, zero, suc, ◌*◌, ◌/◌, ◌%◌, Bool, true, false, cond, List, Some, None, Option, ◌==◌, slice_index_or, slice_set}
 use Rattle.aiger.specs.declared.Gate.{Gate}
 use Rattle.literals.specs.Bits.{bit}
 use Rattle.search.specs.declared.Assignment.{Assignment}

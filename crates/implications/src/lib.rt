@@ -1,5 +1,7 @@
 // What follows for the variables of a network from what is decided of its inputs, where its output is to be 1:
 // forward from the sides of a gate to the gate, and backward from the gate to its sides.
+#![tactic(auto)]
+
 ghost use Rattle.std.specs.Prelude.{◌≡◌, ℕ, ◌+◌, ◌*◌, ◌/◌, ◌<◌, ◌≤◌, Bool, true, false, List, length, slice_index_or};
 ghost use Rattle.networks.specs.Networks.{no_gate};
 ghost use Rattle.networks.specs.Circuits.{Small, Obeys};

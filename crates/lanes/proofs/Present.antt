@@ -1,5 +1,5 @@
 -- The lanes of an assignment that leaves at most six inputs undecided: each setting that agrees with it has one, and no other setting has.
-use Rattle.std.proofs.Common.{◌≡◌, ℕ, zero, suc, ◌+◌, ◌^◌, ◌<◌, ◌≤◌, Bool, true, false, cond, not, ◌&&◌, ◌||◌, eqb, List, map, length, get_or, Some, None, sym, refl, ap, ◌∙◌, subst, ap₂, ⊎_elim, arith}
+use Rattle.std.proofs.Common.{◌≡◌, ℕ, zero, suc, ◌+◌, ◌^◌, ◌<◌, ◌≤◌, Bool, true, false, cond, not, ◌&&◌, ◌||◌, List, map, length, get_or, Some, None, sym, refl, ap, ◌∙◌, subst, ap₂, ⊎_elim, arith}
 use mathlib.Core.Bool.{beq}
 use mathlib.Core.List.{map-map}
 use lib.Bits.{bit_or}
@@ -13,7 +13,7 @@ use Rattle.literals.specs.declared.LiteralSet.{LiteralSet}
 use Rattle.literals.proofs.Bits.{bit_zero, bit_beyond, bit_more}
 use Rattle.literals.proofs.Booleans.{or_false}
 use Rattle.search.specs.declared.Assignment.{Assignment}
-use Rattle.search.specs.Assignments.{taken, agreeing, decided, both, Clear, filled, undecided}
+use Rattle.search.specs.Assignments.{taken, agreeing, decided, Clear, filled, undecided}
 use Rattle.search.proofs.Pointwise.{covers_in, covers_out}
 use Rattle.networks.specs.declared.Circuit.{Circuit}
 use Rattle.lanes.specs.Words.{all_lanes, pattern, input_word, input_words, circuit_good, good_word, FirstLane, Tried}

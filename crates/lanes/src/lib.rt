@@ -1,4 +1,6 @@
 // The values of a network at 64 settings at once. Setting j has lane j: in each word, bit j is the value there.
+#![tactic(auto)]
+
 ghost use Rattle.std.specs.Prelude.{◌≡◌, ℕ, ◌+◌, ◌<◌, ◌≤◌, Bool, true, false, map, length};
 ghost use Rattle.tables.specs.Tables.{items};
 ghost use Rattle.literals.specs.Bits.{bit};

@@ -1,4 +1,6 @@
 // What LEAST, WHY and TERMS mean. Each function's contract is a law about them, so that the law is proved in every check.
+#![tactic(auto)]
+
 ghost use Rattle.laws.specs.Laws.{LeastLaw, LeastAlike, WhyLaw, WhyAlike, TermsLaw, TermsAlike, RecordsLaw};
 ghost use Rattle.laws.specs.Positions.{Positions};
 

@@ -1,4 +1,6 @@
 // Reads a clause text from a file, takes its first N variables for contacts, and prints the least setting that it allows. For timing, it answers REPEAT times before it prints.
+#![tactic(auto)]
+
 use anyhow::anyhow;
 use clause_texts::least_of_text;
 use faults::SheetFault;

@@ -1,4 +1,6 @@
 // Literals, and sets of them as two masks.
+#![tactic(auto)]
+
 ghost use Rattle.std.specs.Prelude.{◌≡◌, ◌%◌, true, length, ◌==◌};
 ghost use Rattle.literals.specs.Literals.{names, first_unnamed, place_within, no_literals, inserted, with_literal, set_of, has};
 ghost use Rattle.literals.specs.Bits.{bit};

@@ -1,4 +1,6 @@
 // The reference model of a pair of sheets, and what holds of every list of calls on a pair that was new.
+#![tactic(auto)]
+
 ghost use Rattle.model.specs.Guarantee.{GuaranteeLaw};
 ghost use Rattle.model.specs.WorkedRun.{WorkedRun};
 

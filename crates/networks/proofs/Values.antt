@@ -1,11 +1,10 @@
 -- The values that a network computes, one gate more at a time, and that there are no others.
-use Rattle.std.proofs.Common.{◌≡◌, ℕ, zero, suc, ◌+◌, ◌*◌, ◌/◌, ◌%◌, ◌<◌, ◌≤◌, Bool, true, false, cond, not, ◌&&◌, eqb, List, [], ◌∷◌, ◌++◌, length, get_or, sym, refl, ap, ◌∙◌, ap₂, ⊎_elim, arith, length-append}
+use Rattle.std.proofs.Common.{◌≡◌, ℕ, suc, ◌+◌, ◌*◌, ◌/◌, ◌%◌, ◌<◌, Bool, false, cond, not, ◌&&◌, eqb, List, [], ◌∷◌, ◌++◌, length, get_or, sym, refl, ap, ◌∙◌, ap₂, ⊎_elim, arith, length-append}
 use Rattle.std.proofs.lemmas.List.{get_or_append_left, get_or_push}
 use Rattle.std.proofs.lemmas.Bool.{cases_lt}
 use Rattle.aiger.specs.declared.Gate.{Gate}
-use Rattle.aiger.specs.Aag.{Aag}
-use Rattle.aiger.specs.Grammar.{WellFormed, Below}
-use Rattle.networks.specs.Networks.{literal_value, gate_value, values_from, network_allows, no_gate, Consistent, NetworkLaw}
+use Rattle.aiger.specs.Grammar.{Below}
+use Rattle.networks.specs.Networks.{literal_value, gate_value, values_from, no_gate, NetworkLaw}
 
 pub values_push : (vs : List Bool) (gs : List Gate) (g : Gate) → values_from vs (gs ++ g ∷ []) ≡ values_from vs gs ++ gate_value (values_from vs gs) g ∷ []
 values_push vs [] g = refl

@@ -1,5 +1,5 @@
 -- A circuit: a network with its gates, inputs and output; and its values as a function of the variables.
-use Rattle.std.specs.Prelude.{◌≡◌, ℕ, ◌+◌, ◌/◌, ◌%◌, ◌<◌, ◌≤◌, Bool, true, false, cond, not, ◌&&◌, List, ◌∷◌, length, ◌==◌, nat_lt, slice_index_or}
+use Rattle.std.specs.Prelude.{◌≡◌, ℕ, ◌+◌, ◌/◌, ◌%◌, ◌<◌, ◌≤◌, Bool, false, cond, not, ◌&&◌, List, ◌∷◌, length, ◌==◌, nat_lt, slice_index_or}
 use Rattle.aiger.specs.declared.Gate.{Gate}
 use Rattle.networks.specs.declared.Circuit.{Circuit}
 use Rattle.networks.specs.Networks.{values_from, network_allows, no_gate}

@@ -1,5 +1,5 @@
 -- What a gate text allows. Variable 0 is false, then come the inputs, then one variable a gate.
-use Rattle.std.specs.Prelude.{◌≡◌, ℕ, suc, ◌+◌, ◌*◌, ◌/◌, ◌%◌, ◌<◌, Bool, true, false, cond, not, ◌&&◌, List, [], ◌∷◌, ◌++◌, length, ◌==◌, slice_index_or}
+use Rattle.std.specs.Prelude.{◌≡◌, ℕ, suc, ◌+◌, ◌/◌, ◌%◌, ◌<◌, Bool, false, cond, not, ◌&&◌, List, [], ◌∷◌, ◌++◌, length, ◌==◌, slice_index_or}
 use Rattle.aiger.specs.declared.Gate.{Gate}
 use Rattle.aiger.specs.Aag.{Aag}
 use Rattle.aiger.specs.Grammar.{WellFormed}

@@ -1,4 +1,6 @@
 // What a network of gates computes, gate by gate.
+#![tactic(auto)]
+
 ghost use Rattle.std.specs.Prelude.{◌≡◌, ◌+◌, ◌≤◌, min, false, ◌∷◌, length, take, slice_index_or};
 ghost use Rattle.tables.specs.Tables.{items};
 ghost use Rattle.settings.specs.Readings.{reading};

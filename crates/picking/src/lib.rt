@@ -1,5 +1,7 @@
 // The earliest standing setting, looked for near another one. Where no standing setting is before that one, it is the earliest of all,
 // and the contacts that both share cost few questions.
+#![tactic(auto)]
+
 ghost use Rattle.std.specs.Prelude.{◌≡◌, ◌<◌, [], ◌∷◌, ◌++◌, length, if◌then◌else◌};
 ghost use Rattle.std.specs.Option.{option_map};
 ghost use Rattle.tables.specs.Tables.{items};

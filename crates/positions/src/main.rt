@@ -1,4 +1,6 @@
 // Runs worked positions, and prints of each what came and what is due.
+#![tactic(auto)]
+
 use std::io;
 
 mod crossed;

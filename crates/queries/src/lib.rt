@@ -1,4 +1,6 @@
 // The earliest setting and the reason of smallest number, over any solver.
+#![tactic(auto)]
+
 ghost use Rattle.std.specs.Prelude.{◌≡◌, ◌+◌, ◌<◌, ◌≤◌, true, not, [], ◌∷◌, ◌++◌, length, is_some, if◌then◌else◌, Some, None};
 ghost use Rattle.tables.specs.Tables.{items};
 ghost use Rattle.settings.specs.Settings.{literal};

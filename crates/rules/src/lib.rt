@@ -1,4 +1,6 @@
 // What a list of rules says of an assignment: the first rule that forces a literal or has failed, and a variable that is worth a try.
+#![tactic(auto)]
+
 ghost use Rattle.std.specs.Prelude.{◌≡◌, Bool, true, false, not, ◌||◌, map};
 ghost use Rattle.rules.specs.Rules.{as_rule, masked, is_met, undecided_in, several, is_quiet, wanted_at, scanned, scanned_both, any_unmet, Choice};
 

@@ -1,4 +1,6 @@
 // Scripts from their bytes to the lines that are printed of them.
+#![tactic(auto)]
+
 mod runs;
 mod shown;
 

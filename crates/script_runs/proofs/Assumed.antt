@@ -60,3 +60,8 @@ when_refused s l f back ts said own = own ∙ go (assume_fault s l) said
     go : (o : Option SheetFault) → denied f back ≡ assume_says (assume_answer s o) → tickets_of s ≡ tickets_of (after_assume s l o)
     go None e = absurd (let z : ◌≡◌ {A = ℕ} 0 1 = cc in omega arith)
     go (Some g) e = refl
+
+-- ASSUME keeps the label
+pub assumed_label : (s : SheetMeaning) (l : ℤ) (o : Option SheetFault) → (after_assume s l o).label ≡ s.label
+assumed_label s l None = refl
+assumed_label s l (Some f) = refl

@@ -1,4 +1,6 @@
 // Obeys the lines of a script on a pair of sheets, MAKE with label 1 and BREAK with label 2.
+#![tactic(auto)]
+
 use faults::Refusal;
 use literals::LiteralSet;
 use settings::Term;

@@ -6,7 +6,7 @@ use Rattle.model.specs.declared.Side.{Side}
 use Rattle.model.specs.declared.Side.TheVariants.{Make, Break}
 use Rattle.scripts.specs.Lines.{lines_of}
 use Rattle.scripts.specs.Words.{words_of}
-use Rattle.scripts.specs.Forms.{Form, nothing, call, terms, ActionForm, rule, assume, release, least, why, write}
+use Rattle.scripts.specs.Forms.{nothing, call, terms, ActionForm, rule, assume, release, least, why, write}
 use Rattle.scripts.specs.Grammar.{line_of}
 
 -- a signed 8-bit number

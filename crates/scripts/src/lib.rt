@@ -1,4 +1,6 @@
 // Scripts of calls on a pair of sheets: cuts a script into lines, and reads what each line asks for.
+#![tactic(auto)]
+
 ghost use Rattle.scripts.specs.Laws.{LinesLaw, ScriptLaw};
 
 use model::Side;

@@ -1,4 +1,6 @@
 // A search for a setting that passes a test: it takes what is forced, else tries open, then closed, then goes back.
+#![tactic(auto)]
+
 ghost use Rattle.std.specs.Prelude.{◌≡◌, ℕ, ◌<◌, ◌≤◌, Bool, List, length};
 ghost use Rattle.search.specs.Assignments.{decided, with_value, low_mask, clashing, from_set, low_half, same};
 ghost use Rattle.search.specs.Search.{depth, branches, Says, Answer};

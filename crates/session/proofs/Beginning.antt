@@ -3,9 +3,9 @@ use Rattle.std.proofs.Common.{◌≡◌, [], refl}
 use Rattle.solver.specs.declared.Solver.{Ghosts}
 use Rattle.sheets.specs.declared.Sheet.{Sheet}
 use Rattle.sheets.specs.Sheets.{sheet_meaning, New}
-use Rattle.model.specs.Guarantee.{NewSheet, NewPair}
+use Rattle.model.specs.Guarantee.{NewPair}
 use Rattle.model.proofs.Whole.{guarantee_law}
-use Rattle.session.specs.Mirrors.{meaning_of, new_model, new_pair, Mirrors, Stands}
+use Rattle.session.specs.Mirrors.{meaning_of, new_model, new_pair, Stands}
 
 new_means : {S : Type 0} (v : Ghosts S) (x : Sheet S) → New v x → sheet_meaning v x ≡ meaning_of (new_model (sheet_meaning v x))
 new_means v x n = λ i. record {

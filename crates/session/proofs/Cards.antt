@@ -1,7 +1,6 @@
 -- TERMS on two sheets, and the model that describes them.
-use Rattle.std.proofs.Common.{◌≡◌, ℕ, ◌≤◌, Bool, true, false, cond, not, eqb, ltb, leb, List, [], ◌∷◌, map, length, ℤ, Some, None, Ok, Err, vec_items, Option, Result, sym, refl, ap, ◌∙◌, subst, arith, eqb-true}
+use Rattle.std.proofs.Common.{◌≡◌, ℕ, ◌≤◌, Bool, true, false, cond, not, eqb, leb, List, ◌∷◌, map, length, Some, None, Err, vec_items, Option, sym, refl, ap, ◌∙◌, subst, arith, eqb-true}
 use Rattle.std.proofs.lemmas.List.{length-map}
-use Rattle.faults.specs.declared.SheetFault.{SheetFault}
 use Rattle.faults.specs.declared.SheetFault.TheVariants.{ShortBuffer, OtherContacts}
 use Rattle.faults.specs.declared.Refusal.{Refusal}
 use Rattle.faults.specs.Refusals.{refused}
@@ -15,7 +14,7 @@ use Rattle.solver.specs.Meaning.{stands}
 use Rattle.terms.specs.Answers.{recorded, terms_answer}
 use Rattle.model.specs.declared.Side.TheVariants.{Make, Break}
 use Rattle.model.specs.Model.{PairModel, allows, card}
-use Rattle.model.specs.Calls.{TERMS, Reply, accepted, terms_written, first_no, questions, is, card_questions, card_terms, at_front, reply_on, next, next_on}
+use Rattle.model.specs.Calls.{TERMS, accepted, terms_written, first_no, questions, is, card_questions, card_terms, at_front, reply_on, next, next_on}
 use Rattle.session.specs.declared.request.Request.{Request}
 use Rattle.session.specs.declared.request.Request.TheVariants.{Sheet as OnSheet, Terms}
 use Rattle.session.specs.Requests.{asks}

@@ -1,11 +1,11 @@
 -- Two pairs that were alike when new and were asked the same have answered the same.
-use Rattle.std.proofs.Common.{◌≡◌, List, [], ◌∷◌, ◌++◌, map, length, Ok, Err, Result, sym, refl, ap, ◌∙◌, subst, ap₂, arith, MatchResult}
+use Rattle.std.proofs.Common.{◌≡◌, List, [], ◌∷◌, ◌++◌, map, length, Ok, Err, Result, sym, refl, ap, ◌∙◌, ap₂, arith, MatchResult}
 use Rattle.std.proofs.lemmas.List.{append_cancel_left, map-append}
 use Rattle.model.specs.Model.{PairModel}
 use Rattle.model.specs.Guarantee.{Event, calls_of, NewPair, AlikePairs, Guaranteed}
 use Rattle.session.specs.declared.request.Request.{Request}
 use Rattle.session.specs.declared.request.Response.{Response}
-use Rattle.session.specs.Requests.{asks, says, event, events}
+use Rattle.session.specs.Requests.{asks, says, events}
 use Rattle.session.specs.Mirrors.{BothServed}
 
 calls_asked : (qs : List Request) (rs : List Response) → length rs ≡ length qs → calls_of (events qs rs) ≡ map asks qs

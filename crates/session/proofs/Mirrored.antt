@@ -1,5 +1,5 @@
 -- A sheet answers a call, and is left by it, as the model that describes it.
-use Rattle.std.proofs.Common.{◌≡◌, ℕ, zero, suc, ◌+◌, ◌<◌, ◌≤◌, Bool, true, false, cond, not, ◌&&◌, ◌||◌, eqb, ltb, leb, List, [], ◌∷◌, ◌++◌, map, length, take, drop, ℤ, is_some, Some, None, Ok, Err, Option, Result, unwrap_or, sym, refl, ap, ◌∙◌, subst, ap₂, arith}
+use Rattle.std.proofs.Common.{◌≡◌, ℕ, suc, ◌+◌, ◌≤◌, Bool, true, false, cond, not, ◌&&◌, ◌||◌, eqb, ltb, leb, List, [], ◌∷◌, ◌++◌, map, length, ℤ, is_some, Some, None, Err, Option, unwrap_or, sym, refl, ap, ◌∙◌, subst, ap₂, arith}
 use lib.Dec.{leb-suc-suc}
 use Rattle.std.specs.Option.{option_map, ok_or}
 use Rattle.std.specs.List.{remove, AllByRecursion as All}
@@ -11,31 +11,30 @@ use Rattle.faults.specs.declared.SheetFault.TheVariants.{Solver as InSolver, Too
 use Rattle.faults.specs.declared.SolverFault.{SolverFault}
 use Rattle.faults.specs.declared.SolverFault.TheVariants.{BadLiteral, TooManyRules}
 use Rattle.faults.specs.declared.Refusal.{Refusal}
-use Rattle.faults.specs.Refusals.{refused, sheet_refusal}
+use Rattle.faults.specs.Refusals.{refused}
 use Rattle.faults.specs.declared.Layer.TheVariants.{Solver, Sheet}
 use Rattle.literals.specs.declared.LiteralSet.{LiteralSet}
 use Rattle.literals.specs.Literals.{names, first_unnamed, set_of}
 use Rattle.literals.proofs.Booleans.{and_true}
 use Rattle.settings.specs.Settings.{fits, literals, all_met}
-use Rattle.settings.specs.Least.{least, some}
-use Rattle.laws.specs.Texts.{every_met}
-use Rattle.laws.specs.Choices.{why, enough, chosen}
+use Rattle.settings.specs.Least.{least}
+use Rattle.laws.specs.Choices.{why, chosen}
 use Rattle.laws.proofs.Least.{least_alike, least_is}
 use Rattle.laws.proofs.Literals.{length_literals}
 use Rattle.laws.proofs.Named.{Named, sets_met}
 use Rattle.laws.proofs.Trim.{length_chosen}
 use Rattle.laws.proofs.Why.{why_alike, why_none, why_greedy}
-use Rattle.solver.specs.Meaning.{Meaning, stands, stands_with, add_fault, full_fault, appended}
+use Rattle.solver.specs.Meaning.{stands, stands_with, full_fault, appended}
 use Rattle.tables.specs.Tables.{without}
 use Rattle.sheets.specs.declared.Held.{Held}
 use Rattle.sheets.specs.declared.Ticket.{Ticket}
 use Rattle.sheets.specs.Sheets.{SheetMeaning, held_literals, rule_answer, ruled, after_rule, assume_fault, assume_answer, after_assume, numbered_at, held_at, release_answer, after_release}
-use Rattle.sheets.specs.Answers.{least_answer, why_answer, over}
+use Rattle.sheets.specs.Answers.{least_answer, why_answer}
 use Rattle.sheets.specs.Entries.{entries_over}
 use Rattle.model.specs.declared.Side.{Side}
 use Rattle.model.specs.declared.Side.TheVariants.{Make, Break}
 use Rattle.model.specs.Model.{SheetModel, PairModel, on, put_on, allows, earliest, reason, with_rule, with_held}
-use Rattle.model.specs.Calls.{Call, RULE, ASSUME, RELEASE, LEAST, WHY, Reply, accepted, denied, done, issued, first_no, questions, holds, struck, answered, next, next_on, reply_on, entered, all_named, is, at_front, least_written, reason_written}
+use Rattle.model.specs.Calls.{Call, RULE, ASSUME, RELEASE, LEAST, WHY, Reply, accepted, first_no, questions, holds, struck, next_on, reply_on, is, at_front, least_written, reason_written}
 use Rattle.session.specs.Served.{rule_says, assume_says, release_says, least_says, why_says}
 use Rattle.session.specs.Mirrors.{meaning_of, RulesNamed}
 

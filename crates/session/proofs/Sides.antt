@@ -1,17 +1,17 @@
 -- One request on a pair of sheets, and the model that describes the pair.
-use Rattle.std.proofs.Common.{◌≡◌, ◌≤◌, Some, None, vec_items, Option, sym, refl, ap, ◌∙◌, subst}
+use Rattle.std.proofs.Common.{◌≡◌, ◌≤◌, Some, None, vec_items, Option, sym, refl, ap, subst}
 use Rattle.faults.specs.declared.Refusal.{Refusal}
 use Rattle.sheets.specs.Sheets.{SheetMeaning}
 use Rattle.model.specs.declared.Side.{Side}
 use Rattle.model.specs.declared.Side.TheVariants.{Make, Break}
-use Rattle.model.specs.Model.{SheetModel, PairModel, on}
+use Rattle.model.specs.Model.{PairModel, on}
 use Rattle.model.specs.Calls.{Call, Reply, first_no, questions, answered, next, next_on}
 use Rattle.session.specs.declared.request.SheetCall.{SheetCall}
 use Rattle.session.specs.declared.request.SheetCall.TheVariants.{Rule, Assume, Release, Least, Why}
 use Rattle.session.specs.Requests.{asks_on}
 use Rattle.session.specs.Served.{call_reply, call_next}
 use Rattle.session.specs.Mirrors.{meaning_of, RulesNamed}
-use Rattle.session.proofs.Mirrored.{Followed, FollowedBy, rule_followed, assume_followed, release_followed, least_followed, why_followed}
+use Rattle.session.proofs.Mirrored.{Followed, rule_followed, assume_followed, release_followed, least_followed, why_followed}
 
 -- the reply and both sheets after a call are the model's
 pub record Turned (p : PairModel) (c : Call) (r : Reply) (m b : SheetMeaning) : Type 0 where

@@ -1,5 +1,5 @@
 -- What requests ask and what responses say, in the words of the reference model.
-use Rattle.std.specs.Prelude.{List, [], ◌∷◌, map, vec_items}
+use Rattle.std.specs.Prelude.{List, [], ◌∷◌, vec_items}
 use Rattle.faults.specs.Refusals.{sheet_refusal}
 use Rattle.model.specs.declared.Side.{Side}
 use Rattle.model.specs.Calls.{Call, RULE, ASSUME, RELEASE, LEAST, WHY, TERMS, Answer as Said, done, issued, least_written, reason_written, terms_written, Returned as Brought, nothing, same_ticket, same_literals, same_terms, Reply, accepted, denied}

@@ -1,12 +1,12 @@
 -- What a request is answered and leaves, from the definitions of the sheets' own calls.
-use Rattle.std.specs.Prelude.{ℕ, List, length, ℤ, Ok, Err, vec_items, Result}
+use Rattle.std.specs.Prelude.{List, length, ℤ, Ok, Err, vec_items, Result}
 use Rattle.faults.specs.declared.SheetFault.{SheetFault}
 use Rattle.faults.specs.Refusals.{sheet_refusal}
 use Rattle.settings.specs.declared.Term.{Term}
 use Rattle.sheets.specs.declared.Ticket.{Ticket}
 use Rattle.sheets.specs.declared.Unreleased.{Unreleased}
 use Rattle.sheets.specs.Sheets.{SheetMeaning, rule_answer, after_rule, assume_fault, assume_answer, after_assume, held_at, release_answer, after_release}
-use Rattle.sheets.specs.Answers.{least_answer, why_answer, over, told, counted, written}
+use Rattle.sheets.specs.Answers.{least_answer, why_answer, over}
 use Rattle.sheets.specs.Entries.{entries_over}
 use Rattle.model.specs.Calls.{done, issued, least_written, reason_written, terms_written, nothing, same_ticket, same_literals, same_terms, Reply, accepted, denied}
 use Rattle.terms.specs.Answers.{terms_answer}

@@ -1,4 +1,6 @@
 // Sessions: requests of several engineers on a pair of sheets, served one after the other, and what is guaranteed of the responses.
+#![tactic(auto)]
+
 mod lists;
 mod pairs;
 pub mod request;

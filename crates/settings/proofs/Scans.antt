@@ -1,5 +1,5 @@
 -- One step of a scan over literals, and of one over contacts.
-use Rattle.std.proofs.Common.{◌≡◌, ℕ, suc, ◌+◌, ◌<◌, ◌≤◌, Bool, true, false, not, ◌&&◌, ◌||◌, List, [], ◌∷◌, length, get_or, drop, ℤ, pos, sym, refl, ap, ◌∙◌, ap₂, add-one}
+use Rattle.std.proofs.Common.{◌≡◌, ℕ, suc, ◌+◌, ◌<◌, ◌≤◌, Bool, true, false, not, ◌||◌, List, ◌∷◌, length, get_or, drop, ℤ, pos, sym, refl, ap, ◌∙◌, ap₂, add-one}
 use mathlib.Core.Bool.{beq}
 use Rattle.std.proofs.lemmas.List.{at_drop_more, at_drop_all}
 use Rattle.literals.specs.declared.LiteralSet.{LiteralSet}

@@ -1,15 +1,14 @@
 -- A set of literals, one literal more at a time.
-use Rattle.std.proofs.Common.{◌≡◌, ℕ, zero, suc, ◌+◌, ◌<◌, ◌≤◌, Bool, true, false, cond, not, ◌&&◌, ◌||◌, eqb, ltb, List, [], ◌∷◌, length, get_or, ℤ, pos, negsuc, Some, None, fold, Option, sym, refl, ap, ◌∙◌, subst, ap₂, arith}
+use Rattle.std.proofs.Common.{◌≡◌, ℕ, zero, suc, ◌+◌, ◌<◌, ◌≤◌, Bool, true, false, cond, not, ◌&&◌, ◌||◌, eqb, List, [], ◌∷◌, length, get_or, ℤ, pos, negsuc, Some, None, fold, Option, sym, refl, ap, ◌∙◌, ap₂, arith}
 use Rattle.std.specs.Option.{option_map}
 use Rattle.std.proofs.lemmas.Bool.{eq-eqb, ne_eqb, lt-ltb, ltb-true, cond-true}
 use Rattle.std.proofs.lemmas.Bool.Decides.{nat_tests}
 use Rattle.literals.specs.declared.LiteralSet.{LiteralSet}
-use Rattle.literals.specs.Bits.{bit}
-use Rattle.literals.specs.Literals.{names, first_unnamed, no_literals, inserted, with_literal, set_of, has}
+use Rattle.literals.specs.Literals.{names, first_unnamed, no_literals, inserted, with_literal, has}
 use Rattle.literals.proofs.Bits.{bit_zero, bit_more}
 use Rattle.literals.proofs.Booleans.{and_assoc, and_true, not_not, not_or, or_assoc, or_false}
 use Rattle.settings.specs.Settings.{agrees, met, fits, literal, meets_from, covers_from, meets, covers, opposite}
-use Rattle.settings.specs.Laws.{SaidAlike, SetsLaw}
+use Rattle.settings.specs.Laws.{SetsLaw}
 
 -- ---- lists whose literals all name a contact
 

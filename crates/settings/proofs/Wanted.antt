@@ -4,7 +4,7 @@ use Rattle.std.specs.Option.{option_map}
 use Rattle.std.proofs.lemmas.List.{append_assoc, append-nil, length-append, length-take-le, take_more, take_all}
 use Rattle.std.proofs.lemmas.Bool.{lt-ltb, cond-true}
 use Rattle.literals.specs.Bits.{bit}
-use Rattle.literals.specs.Literals.{names, first_unnamed}
+use Rattle.literals.specs.Literals.{first_unnamed}
 use Rattle.settings.specs.declared.Term.{Term}
 use Rattle.settings.specs.TermRecords.{digits, signed_at, signed, wanted}
 

@@ -1,4 +1,6 @@
 // Settings of contacts and the tests on them, and terms as they are written.
+#![tactic(auto)]
+
 ghost use Rattle.std.specs.Prelude.{◌≡◌, ◌<◌, ◌≤◌, min, false, slice_index_or};
 ghost use Rattle.tables.specs.Tables.{items};
 ghost use Rattle.settings.specs.Settings.{agrees, met, fits, any_agrees, meets, covers, any_held, literal, literals};

@@ -1,4 +1,6 @@
 // Reads a clause text from standard input, takes each of its variables for a contact, and prints the least setting that it allows.
+#![tactic(auto)]
+
 use clause_texts::least_of_whole_text;
 use faults::SheetFault;
 use literals::LiteralSet;

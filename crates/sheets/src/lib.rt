@@ -1,4 +1,6 @@
 // Sheets: a solver with held assumptions, and the calls on them.
+#![tactic(auto)]
+
 use faults::SheetFault;
 use solver::Solver;
 use tables::table::Table;

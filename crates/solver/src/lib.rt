@@ -1,4 +1,6 @@
 // The five calls of a solver, and what they mean.
+#![tactic(auto)]
+
 ghost use Rattle.std.specs.Prelude.{◌≡◌, ℕ, ◌≤◌, Bool, List};
 ghost use Rattle.literals.specs.declared.LiteralSet.{LiteralSet};
 ghost use Rattle.solver.specs.Meaning.{meaning_from, Asked, add_fault, bar_fault, outcome, with_rule, with_bar, without_bars};

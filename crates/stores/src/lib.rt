@@ -1,4 +1,6 @@
 // Stores of records that a caller brings for the rules or gates of a text.
+#![tactic(auto)]
+
 ghost use Rattle.std.specs.Prelude.{◌≡◌};
 ghost use Rattle.stores.specs.Stores.{roomy};
 

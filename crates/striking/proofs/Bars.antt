@@ -7,7 +7,7 @@ use Rattle.faults.specs.declared.SolverFault.TheVariants.{TooManyBars}
 use Rattle.literals.specs.declared.LiteralSet.{LiteralSet}
 use Rattle.literals.specs.Literals.{first_unnamed, set_of}
 use Rattle.settings.specs.declared.Term.{Term}
-use Rattle.settings.specs.Settings.{fits, covered, covers, all_met, any_covers}
+use Rattle.settings.specs.Settings.{fits, covered, all_met, any_covers}
 use Rattle.settings.specs.Least.{least, some}
 use Rattle.settings.specs.TermRecords.{wanted}
 use Rattle.settings.proofs.Sets.{sets_law}

@@ -1,4 +1,6 @@
 // Terms as bars of a solver, and the striking of terms that the others make needless.
+#![tactic(auto)]
+
 ghost use Rattle.std.specs.Prelude.{◌≡◌, ◌<◌, [], ◌∷◌, ◌++◌, length, if◌then◌else◌};
 ghost use Rattle.tables.specs.Tables.{items};
 ghost use Rattle.solver.specs.Meaning.{without_bars};

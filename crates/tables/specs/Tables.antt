@@ -1,5 +1,5 @@
 -- What a table holds, and what its calls answer and leave.
-use Rattle.std.specs.Prelude.{ℕ, ◌+◌, cond, List, [], ◌∷◌, ◌++◌, length, take, Ok, Err, Result, nat_le, nat_lt}
+use Rattle.std.specs.Prelude.{ℕ, ◌+◌, cond, List, ◌++◌, length, take, Ok, Err, Result, nat_le, nat_lt}
 use Rattle.std.specs.List.{remove}
 use Rattle.tables.specs.declared.table.Table.{Table}
 use Rattle.tables.specs.declared.table.Full.{Full}

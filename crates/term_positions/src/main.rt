@@ -1,4 +1,6 @@
 // Puts worked positions of TERMS to sheets over each solver, and prints what came and what is due.
+#![tactic(auto)]
+
 use std::io;
 
 mod parity;

@@ -1,4 +1,6 @@
 // TERMS: the terms that cover every setting of one sheet and none of another, by the five steps that docs/CALLS.md lists.
+#![tactic(auto)]
+
 ghost use Rattle.std.specs.Prelude.{◌≡◌, [], length};
 ghost use Rattle.tables.specs.Tables.{items};
 ghost use Rattle.solver.specs.Meaning.{without_bars};

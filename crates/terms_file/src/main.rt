@@ -1,4 +1,6 @@
 // Reads two clause texts from files, takes the first N variables of each for contacts, and prints the terms that cover what the first allows and nothing that the second allows.
+#![tactic(auto)]
+
 use anyhow::anyhow;
 use clauses::ClauseSolver;
 use clauses::counts::VariableCounts;

@@ -1,4 +1,6 @@
 // Cuts a text into words, each with its place, and judges what is due next in it.
+#![tactic(auto)]
+
 mod cut;
 mod decimal;
 mod due;

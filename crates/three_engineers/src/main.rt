@@ -1,5 +1,7 @@
 // Three engineers work on one pair of sheets, one after the other, each with the tickets that the others left. The same requests are put to four pairs:
 // over clause texts and over gate texts that allow the same settings, with and without a witness cache. What the first pair answers is printed, and whether the others gave the same.
+#![tactic(auto)]
+
 use pairs::{clause_pair, gate_pair};
 
 mod pairs;

@@ -1,4 +1,6 @@
 // LEAST and WHY under literals that are assumed for just one question.
+#![tactic(auto)]
+
 ghost use Rattle.std.specs.Prelude.{◌≡◌, true, length, is_some};
 ghost use Rattle.sheets.specs.Sheets.{sheet_meaning, InOrder, held_at, after_release};
 ghost use Rattle.sheets.specs.Answers.{least_answer, why_answer, counted, written};

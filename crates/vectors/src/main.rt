@@ -1,4 +1,6 @@
 // Reads published clause and gate files, and prints what each comes to.
+#![tactic(auto)]
+
 use reports::{report_answered, report_clauses, report_gates};
 
 mod clauses_solved;

@@ -1,12 +1,12 @@
 -- Settings that stand, remembered and recalled.
-use Rattle.std.proofs.Common.{◌≡◌, Bool, true, false, cond, not, ◌&&◌, ltb, List, [], ◌∷◌, ◌++◌, length, ℤ, Some, None, Option, sym, refl, ap, ◌∙◌, subst, arith}
+use Rattle.std.proofs.Common.{◌≡◌, Bool, true, false, cond, not, ◌&&◌, ltb, List, [], ◌∷◌, ◌++◌, length, ℤ, Some, None, Option, refl, ap, ◌∙◌, subst, arith}
 use Rattle.std.proofs.lemmas.Bool.{and_parts, and_from, cond-true, lt-ltb, false≢true}
 use Rattle.tables.specs.Tables.{without}
 use Rattle.settings.specs.declared.Setting.{Setting}
 use Rattle.settings.specs.Settings.{fits, all_met, any_covers}
 use Rattle.settings.specs.Readings.{reading}
 use Rattle.solver.specs.Meaning.{Meaning, stands, Answers, without_bars}
-use Rattle.witnesses.specs.Witnesses.{all_stand, remembered, noted}
+use Rattle.witnesses.specs.Witnesses.{all_stand, noted}
 use Rattle.witnesses.specs.Recalls.{recalled}
 
 module _ (m : Meaning) where

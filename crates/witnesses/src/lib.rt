@@ -1,4 +1,6 @@
 // A cache of witnesses over any solver: settings that ASK answered with before and that still stand.
+#![tactic(auto)]
+
 ghost use Rattle.std.specs.Prelude.{◌≡◌, true, []};
 ghost use Rattle.std.specs.List.{slice_get};
 ghost use Rattle.tables.specs.Tables.{items};

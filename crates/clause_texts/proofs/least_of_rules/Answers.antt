@@ -1,4 +1,4 @@
-use Rattle.std.proofs.Common.{◌≡◌, length, ap, ◌∙◌}
+use Rattle.std.proofs.Common.{length, ap, ◌∙◌}
 use Rattle.sheets.specs.Answers.{told, written}
 use Rattle.clause_texts.proofs.Loaded.{sheet_answer}
 use Rattle.clause_texts.proofs.least_of_rules.Goals as goal

@@ -1,4 +1,4 @@
-use Rattle.std.proofs.Common.{◌≡◌, length, ap, ◌∙◌}
+use Rattle.std.proofs.Common.{length, ap, ◌∙◌}
 use Rattle.sheets.specs.Answers.{told, written}
 use Rattle.gate_texts.proofs.Loaded.{sheet_answer}
 use Rattle.gate_texts.proofs.least_of_gates.Goals as goal

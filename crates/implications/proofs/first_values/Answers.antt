@@ -1,4 +1,4 @@
-use Rattle.std.proofs.Common.{◌≡◌, ◌+◌, sym, ◌∙◌, subst, arith, length-set}
+use Rattle.std.proofs.Common.{◌+◌, sym, ◌∙◌, subst, arith, length-set}
 use Rattle.implications.specs.Implied.{Agree}
 use Rattle.implications.proofs.Sound.{sound_set}
 use Rattle.implications.proofs.Implying.{first_sound}

@@ -1,4 +1,4 @@
-use Rattle.std.proofs.Common.{◌≡◌, sym, ◌∙◌}
+use Rattle.std.proofs.Common.{sym, ◌∙◌}
 use Rattle.networks.specs.Circuits.{computed}
 use Rattle.networks.proofs.Circuits.{computed_obeys}
 use Rattle.implications.specs.Implied.{Holds}

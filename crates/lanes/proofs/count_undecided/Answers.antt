@@ -1,4 +1,4 @@
-use Rattle.std.proofs.Common.{◌≡◌, ap, ◌∙◌, arith}
+use Rattle.std.proofs.Common.{ap, ◌∙◌, arith}
 use Rattle.lanes.specs.Words.{next_rank}
 use Rattle.lanes.proofs.Steps.{rank_more, rank_small}
 use Rattle.lanes.proofs.count_undecided.Goals as goal

@@ -3,7 +3,7 @@ use Rattle.std.proofs.lemmas.List.FromFn.{map-range_with_len_more, length-map-ra
 use Rattle.tables.specs.Tables.{items}
 use Rattle.tables.proofs.Rooms.{appended_in_room}
 use Rattle.search.specs.Assignments.{undecided}
-use Rattle.lanes.specs.Words.{input_word, input_words, next_rank}
+use Rattle.lanes.specs.Words.{input_word, next_rank}
 use Rattle.lanes.proofs.Steps.{rank_more, rank_small}
 use Rattle.lanes.proofs.input_words.Goals as goal
 

@@ -1,5 +1,4 @@
-use Rattle.std.proofs.Common.{◌≡◌, map, length, sym, ap, ◌∙◌, subst}
-use Rattle.tables.specs.Tables.{items}
+use Rattle.std.proofs.Common.{◌≡◌, map, length, sym, ◌∙◌, subst}
 use Rattle.literals.specs.Bits.{bit}
 use Rattle.search.specs.Assignments.{filled}
 use Rattle.lanes.proofs.Present.{none_good, some_good}

@@ -1,4 +1,4 @@
-use Rattle.std.proofs.Common.{◌≡◌, true, false, Some, sym, refl, ap, ◌∙◌, ap₂, w8, SFits, to_z, of_z, rules}
+use Rattle.std.proofs.Common.{◌≡◌, true, false, Some, sym, refl, ◌∙◌, ap₂, w8, SFits, to_z, of_z, rules}
 use Rattle.std.proofs.lemmas.Int.{to_z-of_z}
 use Rattle.settings.specs.Readings.{reading}
 use Rattle.settings.specs.Settings.{agrees, literal}

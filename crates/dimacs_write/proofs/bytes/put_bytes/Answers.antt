@@ -1,4 +1,4 @@
-use Rattle.std.proofs.Common.{◌+◌, ◌-◌, ◌≤◌, length, drop, sym, ap, ◌∙◌, arith, drop_of_length-le}
+use Rattle.std.proofs.Common.{◌+◌, ◌≤◌, length, drop, sym, ap, ◌∙◌, arith, drop_of_length-le}
 use Rattle.dimacs_write.specs.Puts.{over}
 use Rattle.dimacs_write.proofs.Buffers.{from_place}
 use Rattle.dimacs_write.proofs.bytes.put_bytes.Goals as goal

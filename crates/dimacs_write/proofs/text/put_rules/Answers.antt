@@ -1,4 +1,4 @@
-use Rattle.std.proofs.Common.{◌+◌, ◌-◌, ◌≤◌, length, get_or, drop, sym, ap, ◌∙◌, arith, length-append, drop_of_length-le}
+use Rattle.std.proofs.Common.{◌+◌, ◌≤◌, length, get_or, drop, sym, ap, ◌∙◌, arith, length-append, drop_of_length-le}
 use Rattle.literals.specs.Literals.{no_literals, listed}
 use Rattle.dimacs_write.specs.Puts.{over}
 use Rattle.dimacs_write.specs.Texts.{rule_text, set_texts}

@@ -1,4 +1,4 @@
-use Rattle.std.proofs.Common.{◌+◌, [], ◌∷◌, ◌++◌, length, codes, decimal, sym, ap, ◌∙◌, append_assoc, arith, length-append}
+use Rattle.std.proofs.Common.{[], ◌∷◌, ◌++◌, length, codes, decimal, sym, ap, ◌∙◌, append_assoc, arith, length-append}
 use lib.ListN.{length-map}
 use Rattle.literals.specs.Literals.{listed}
 use Rattle.dimacs_write.specs.Puts.{over}

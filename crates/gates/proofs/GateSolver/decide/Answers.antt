@@ -1,4 +1,4 @@
-use Rattle.std.proofs.Common.{◌≡◌, true, sym, refl, ap, ◌∙◌, subst}
+use Rattle.std.proofs.Common.{true, sym, refl, ap, ◌∙◌, subst}
 use Rattle.settings.specs.Readings.{reading}
 use Rattle.rules.specs.Rules.{Choice}
 use Rattle.gates.specs.Gates.{gate_contacts, gate_good}

@@ -1,4 +1,4 @@
-use Rattle.std.proofs.Common.{◌≡◌, ◌+◌, get_or, sym, ap, ◌∙◌}
+use Rattle.std.proofs.Common.{◌+◌, get_or, sym, ap, ◌∙◌}
 use Rattle.implications.specs.declared.Ternary.TheVariants.{Unknown}
 use Rattle.implications.specs.Ternaries.{taken_from}
 use Rattle.implications.proofs.Implying.{narrowed_more}

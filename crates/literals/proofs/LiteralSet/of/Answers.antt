@@ -1,4 +1,4 @@
-use Rattle.std.proofs.Common.{◌≡◌, get_or, pos, sym, ap, ◌∙◌, ap₂, take_all, w8, SFits, rules}
+use Rattle.std.proofs.Common.{get_or, pos, sym, ap, ◌∙◌, ap₂, take_all, w8, SFits, rules}
 use Rattle.std.proofs.lemmas.Int.{to_z-of_z}
 use Rattle.std.proofs.lemmas.List.Sums.{fold_more}
 use Rattle.literals.specs.Literals.{no_literals, with_literal, set_of}

@@ -1,4 +1,4 @@
-use Rattle.std.proofs.Common.{◌≡◌, Bool, true, false, ◌||◌, map, sym, refl, ap, ◌∙◌}
+use Rattle.std.proofs.Common.{◌||◌, map, sym, ap, ◌∙◌}
 use Rattle.std.proofs.lemmas.List.{at_drop_all}
 use Rattle.rules.specs.Rules.{as_rule, any_unmet}
 use Rattle.rules.proofs.Scans.{unmet_next}

@@ -1,7 +1,7 @@
-use Rattle.std.proofs.Common.{◌≡◌, Bool, true, false, get_or, drop, pos, sym, ap, ◌∙◌, w8, SFits, rules}
+use Rattle.std.proofs.Common.{◌≡◌, Bool, true, false, get_or, pos, sym, ap, ◌∙◌, w8, SFits, rules}
 use mathlib.Core.Bool.{beq}
 use Rattle.std.proofs.lemmas.Int.{to_z-of_z}
-use Rattle.settings.specs.Settings.{agrees, any_agrees}
+use Rattle.settings.specs.Settings.{agrees}
 use Rattle.settings.specs.Readings.{reading}
 use Rattle.settings.proofs.Scans.{agrees_more, agrees_all}
 use Rattle.settings.proofs.Setting.any_agrees.Goals as goal

@@ -1,8 +1,7 @@
-use Rattle.std.proofs.Common.{◌≡◌, ◌<◌, length, vec_items, vec_len, sym, ap, ◌∙◌, arith, rules}
-use Rattle.std.specs.List.{remove}
+use Rattle.std.proofs.Common.{◌≡◌, ◌<◌, length, vec_items, sym, ap, ◌∙◌, rules}
 use Rattle.sheets.specs.Sheets.{sheet_meaning}
 use Rattle.tickets.specs.Tickets.{tickets_of, none_held}
-use Rattle.tickets.proofs.Returned.{Returned, first_returned, all_returned}
+use Rattle.tickets.proofs.Returned.{first_returned, all_returned}
 use Rattle.tickets.proofs.calls.give_each_back.Goals as goal
 
 pub give_back-requires : goal.give_back-requires

@@ -2,7 +2,7 @@ use Rattle.std.proofs.Common.{◌≡◌, true, Some, None, Option, sym, refl, ap
 use Rattle.faults.specs.declared.SolverFault.TheVariants.{BadLiteral}
 use Rattle.literals.specs.Literals.{first_unnamed}
 use Rattle.tables.specs.Tables.{items}
-use Rattle.solver.specs.Meaning.{Meaning, Answers}
+use Rattle.solver.specs.Meaning.{Meaning}
 use Rattle.solver.specs.Over.{meaning_of}
 use Rattle.witnesses.specs.Witnesses.{all_stand}
 use Rattle.witnesses.specs.Recalls.{recalled, ByRecall}
