@@ -1,7 +1,7 @@
 -- Clause texts by their lines and words: comment lines, then `p cnf V C`, then the literals of each rule with a closing 0.
 use Rattle.std.specs.Prelude.{◌≡◌, ℕ, ◌≤◌, true, List, [], ◌∷◌, ◌++◌, map, length, ℤ, Ok, Err, codes, decimal, slice_index}
 use Rattle.std.specs.Fmt.{signed_decimal}
-use Rattle.std.specs.List.{AllByRecursion as All}
+use Rattle.std.specs.List.{AllByRecursion}
 use Rattle.faults.specs.declared.TextFault.{TextFault}
 use Rattle.literals.specs.Literals.{names}
 use Rattle.texts.specs.Lexemes.{Lexeme, lexemes_from}
@@ -29,14 +29,14 @@ pub record WellFormed (c : Cnf) : Type 0 where
   pub some_variable : 1 ≤ c.vars
   pub few_variables : c.vars ≤ 64
   pub few_rules : length c.rules ≤ 4096
-  pub named : All (All (λ l. names c.vars l ≡ true)) c.rules
+  pub named : AllByRecursion (AllByRecursion (λ l. names c.vars l ≡ true)) c.rules
 
 -- what c says, spelled by a text of at most 60,000 bytes: its lines, word by word, right up to the end of the text
 pub record Spelled (text : List ℕ) (c : Cnf) : Type 0 where
   pub short : length text ≤ 60000
   pub well_formed : WellFormed c
   pub comments : List (List (List ℕ))
-  pub comments_begin_with_c : All Comment comments
+  pub comments_begin_with_c : AllByRecursion Comment comments
   pub behind : ℕ
   pub rest : List Lexeme
   pub lines : Lines (comments ++ cnf_lines c) 0 (lexemes_from 0 text) behind rest

@@ -1,6 +1,6 @@
 -- What is written, read again.
 use Rattle.std.specs.Prelude.{◌≡◌, ℕ, ◌^◌, ◌<◌, ◌≤◌, List, map, length, take, Ok, Err, Result}
-use Rattle.std.specs.List.{AllByRecursion as All}
+use Rattle.std.specs.List.{AllByRecursion}
 use Rattle.faults.specs.declared.TextFault.{TextFault}
 use Rattle.faults.specs.declared.SheetFault.{SheetFault}
 use Rattle.literals.specs.declared.LiteralSet.{LiteralSet}
@@ -19,7 +19,7 @@ Over V s = (s.closed < 2 ^ V) × (s.opened < 2 ^ V)
 
 -- what was written reads back as the same V and the same rules in their order, unless it is longer than a text may be
 abbrev pub ReadsBack : ℕ → List LiteralSet → Result ℕ SheetFault → List ℕ → Type 0
-ReadsBack V sets (Ok n) out = All (Over V) sets → n ≤ 60000 → as_sets (read_cnf (take n out)) ≡ Ok (V, sets)
+ReadsBack V sets (Ok n) out = AllByRecursion (Over V) sets → n ≤ 60000 → as_sets (read_cnf (take n out)) ≡ Ok (V, sets)
 ReadsBack V sets (Err e) out = Unit {0}
 
 -- the rules that a text was read as are written in no more bytes than it has, and read back as the same

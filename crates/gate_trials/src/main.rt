@@ -1,7 +1,6 @@
 // Compares the gate solver with a plain look through all settings and with the clause solver on the same function, on pseudo-random and on named networks.
 #![tactic(auto)]
 
-
 mod compared;
 mod network;
 mod random;

@@ -1,7 +1,7 @@
 -- What LEAST, WHY and TERMS answer, in the words of the subject.
 -- A sheet's allowed settings are a test on settings; MAKE and BREAK are the two sheets of TERMS.
 use Rattle.std.specs.Prelude.{◌≡◌, ℕ, ◌^◌, ◌<◌, ◌≤◌, Bool, true, false, List, [], ◌∷◌, ◌++◌, length, ℤ, Some, None, Option, ◌≢◌, bit_and}
-use Rattle.std.specs.List.{AllByRecursion as All}
+use Rattle.std.specs.List.{AllByRecursion}
 use Rattle.settings.specs.Settings.{fits, covered, number, literals}
 use Rattle.settings.specs.Least.{least}
 use Rattle.laws.specs.Choices.{chosen, part_of, enough, why, greedy}
@@ -87,7 +87,7 @@ pub record Card (n : ℕ) (make brk : List Bool → Bool) (ts : List (List ℤ))
   pub every_make : (x : List Bool) → length x ≡ n → make x ≡ true → covered ts x ≡ true
   pub no_break : (x : List Bool) → length x ≡ n → brk x ≡ true → covered ts x ≡ false
   pub at_most_64 : length ts ≤ 64
-  pub recorded : All (Recorded n) ts
+  pub recorded : AllByRecursion (Recorded n) ts
   pub no_literal_less : (before after : List (List ℤ)) (front back : List ℤ) (l : ℤ) → ts ≡ before ++ (front ++ l ∷ back) ∷ after → NotEnough n brk (front ++ back)
   pub no_term_less : (before after : List (List ℤ)) (t : List ℤ) → ts ≡ before ++ t ∷ after → Missed n make (before ++ after)
 

@@ -1,6 +1,6 @@
 -- What holds of every list of calls on a pair of sheets that was new, whatever solvers are below.
 use Rattle.std.specs.Prelude.{◌≡◌, ℕ, ◌<◌, Bool, true, List, [], ◌∷◌, ◌++◌, map, length, ℤ, ◌≢◌}
-use Rattle.std.specs.List.{AllByRecursion as All}
+use Rattle.std.specs.List.{AllByRecursion}
 use Rattle.settings.specs.declared.Term.{Term}
 use Rattle.settings.specs.Settings.{agrees, met, number, literals}
 use Rattle.settings.specs.TermRecords.{sums}
@@ -71,12 +71,12 @@ module _ (start : PairModel) (before : List Event) where
   pub record Allowed (side : Side) (x : List Bool) : Type 0 where
     pub sized : length x ≡ (on start side).contacts
     pub allowed_when_new : (on start side).new x ≡ true
-    pub meets_rules : All (λ r. met r x ≡ true) (accepted_rules side before)
+    pub meets_rules : AllByRecursion (λ r. met r x ≡ true) (accepted_rules side before)
 
   -- and agrees with each held assumption
   pub record Free (side : Side) (x : List Bool) : Type 0 where
     pub allowed : Allowed side x
-    pub agrees_with_held : All (λ l. agrees x l ≡ true) (held_here side)
+    pub agrees_with_held : AllByRecursion (λ l. agrees x l ≡ true) (held_here side)
 
   -- LEAST's setting is such a setting, and every other one is later
   pub record LeastSetting (side : Side) (x : List Bool) : Type 0 where
@@ -85,7 +85,7 @@ module _ (start : PairModel) (before : List Event) where
 
   -- a choice of the held assumptions is enough to block: no allowed setting agrees with all of it
   abbrev pub Blocks : Side → List Bool → Type 0
-  Blocks side c = (x : List Bool) → Allowed side x → All (λ l. agrees x l ≡ true) (chosen c (held_here side)) → ⊥
+  Blocks side c = (x : List Bool) → Allowed side x → AllByRecursion (λ l. agrees x l ≡ true) (chosen c (held_here side)) → ⊥
 
   -- WHY's choice is enough, and every other enough choice has a greater number
   pub record SmallestReason (side : Side) (c : List Bool) : Type 0 where

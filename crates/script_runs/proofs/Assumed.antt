@@ -1,18 +1,17 @@
 -- ASSUME on one sheet of a pair, and the tickets that are kept.
-use Rattle.std.proofs.Common.{◌≡◌, ℕ, ◌<◌, Bool, true, false, cond, ltb, List, [], ◌∷◌, ◌++◌, map, length, ℤ, Some, None, Ok, Err, Option, Result, sym, refl, ap, ◌∙◌, arith}
+use Rattle.std.proofs.Common.{◌≡◌, ℕ, ◌<◌, Bool, true, false, cond, ltb, List, [], ◌∷◌, ◌++◌, length, ℤ, Some, None, Ok, Err, Option, Result, sym, refl, ap, ◌∙◌, arith}
 use mathlib.Core.List.{map-append}
 use lib.ListN.{length-map}
 use Rattle.std.proofs.lemmas.Bool.{ltb-true}
 use Rattle.faults.specs.declared.SheetFault.{SheetFault}
 use Rattle.faults.specs.declared.Refusal.{Refusal}
-use Rattle.faults.specs.Refusals.{sheet_refusal}
 use Rattle.literals.specs.Literals.{names}
 use Rattle.sheets.specs.declared.Ticket.{Ticket}
-use Rattle.sheets.specs.Sheets.{SheetMeaning, assume_fault, assume_answer, after_assume, next_ticket, with_held}
+use Rattle.sheets.specs.Sheets.{SheetMeaning, assume_fault, assume_answer, after_assume}
 use Rattle.trials.proofs.Steps.{accepted_is}
 use Rattle.model.specs.declared.Side.{Side}
 use Rattle.model.specs.declared.Side.TheVariants.{Make, Break}
-use Rattle.model.specs.Calls.{Reply, accepted, denied, issued, nothing, Returned}
+use Rattle.model.specs.Calls.{accepted, denied, issued, Returned}
 use Rattle.session.specs.Served.{assume_says}
 use Rattle.tickets.specs.Tickets.{ticket_for, tickets_of}
 use Rattle.script_runs.specs.Obeyed.{sided, assume_reply, make_assumed, break_assumed}

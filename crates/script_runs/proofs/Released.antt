@@ -1,7 +1,6 @@
 -- RELEASE on one sheet of a pair, and the tickets that are kept.
-use Rattle.std.proofs.Common.{◌≡◌, ℕ, zero, suc, ◌<◌, ◌≤◌, Bool, true, false, cond, ◌||◌, eqb, List, [], ◌∷◌, ◌++◌, map, length, get_or, is_some, Some, None, Option, sym, refl, ap, ◌∙◌, subst, arith}
+use Rattle.std.proofs.Common.{◌≡◌, ℕ, zero, suc, ◌<◌, List, [], ◌∷◌, length, get_or, Some, None, Option, refl, ap, arith}
 use Rattle.std.specs.List.{insert, remove}
-use Rattle.std.specs.Option.{option_map}
 use Rattle.faults.specs.declared.Refusal.{Refusal}
 use Rattle.sheets.specs.declared.Ticket.{Ticket}
 use Rattle.sheets.specs.Sheets.{SheetMeaning, held_at, release_answer}

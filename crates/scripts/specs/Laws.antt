@@ -1,7 +1,7 @@
 -- What is written of a line, read again.
 use Rattle.std.specs.Prelude.{◌≡◌, ℕ, ◌≤◌, false, List, [], ◌∷◌, ◌++◌, map, replicate, ℤ, pos, negsuc, codes, decimal, ◌==◌}
 use Rattle.std.specs.Fmt.{signed_decimal}
-use Rattle.std.specs.List.{AllByRecursion as All}
+use Rattle.std.specs.List.{AllByRecursion}
 use Rattle.model.specs.declared.Side.{Side}
 use Rattle.model.specs.declared.Side.TheVariants.{Make, Break}
 use Rattle.scripts.specs.Lines.{lines_of}
@@ -16,7 +16,7 @@ InByte (negsuc n) = n ≤ 127
 
 -- literals of 8 bits, labels, numbers and lengths of 16
 abbrev pub Within : ActionForm → Type 0
-Within (rule ls) = All InByte ls
+Within (rule ls) = AllByRecursion InByte ls
 Within (assume l) = InByte l
 Within (release label number) = (label ≤ 65535) × (number ≤ 65535)
 Within (least n) = n ≤ 65535
@@ -56,7 +56,7 @@ pub record LinesLaw : Type 0 where
 
 -- a line has no line feed (10) inside
 abbrev pub NoFeed : List ℕ → Type 0
-NoFeed l = All (λ b. (b == 10) ≡ false) l
+NoFeed l = AllByRecursion (λ b. (b == 10) ≡ false) l
 
 -- lines, each with its line feed
 abbrev pub fed : List (List ℕ) → List ℕ
@@ -65,5 +65,5 @@ fed (l ∷ ls) = l ++ (10 ∷ fed ls)
 
 -- a script is cut into the lines that it was put together from, whether or not the last one, if it has a byte, ends with a line feed
 pub record ScriptLaw : Type 0 where
-  pub all_fed : (ls : List (List ℕ)) → All NoFeed ls → lines_of (fed ls) ≡ ls
-  pub last_unfed : (ls : List (List ℕ)) (b : ℕ) (last : List ℕ) → All NoFeed ls → NoFeed (b ∷ last) → lines_of (fed ls ++ (b ∷ last)) ≡ ls ++ ((b ∷ last) ∷ [])
+  pub all_fed : (ls : List (List ℕ)) → AllByRecursion NoFeed ls → lines_of (fed ls) ≡ ls
+  pub last_unfed : (ls : List (List ℕ)) (b : ℕ) (last : List ℕ) → AllByRecursion NoFeed ls → NoFeed (b ∷ last) → lines_of (fed ls ++ (b ∷ last)) ≡ ls ++ ((b ∷ last) ∷ [])

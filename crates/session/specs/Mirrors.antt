@@ -1,6 +1,6 @@
 -- A pair of sheets and the reference model that says all there is to know of it.
 use Rattle.std.specs.Prelude.{◌≡◌, List, [], map, length, None, Ok, Err, Result}
-use Rattle.std.specs.List.{AllByRecursion as All}
+use Rattle.std.specs.List.{AllByRecursion}
 use Rattle.literals.specs.Literals.{first_unnamed, set_of}
 use Rattle.solver.specs.declared.Solver.{Ghosts}
 use Rattle.sheets.specs.declared.Sheet.{Sheet}
@@ -29,7 +29,7 @@ new_pair make brk = record { make = new_model make; brk = new_model brk }
 
 -- each rule names contacts
 abbrev pub RulesNamed : SheetModel → Type 0
-RulesNamed s = All (λ r. first_unnamed s.contacts r ≡ None) s.rules
+RulesNamed s = AllByRecursion (λ r. first_unnamed s.contacts r ≡ None) s.rules
 
 module _ {M B : Type 0} (m : Ghosts M) (b : Ghosts B) (make : Sheet M) (brk : Sheet B) where
   -- the model describes both sheets, and its rules name contacts

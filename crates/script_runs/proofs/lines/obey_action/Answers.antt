@@ -1,4 +1,4 @@
-use Rattle.std.proofs.Common.{◌≡◌, sym, ap, ◌∙◌}
+use Rattle.std.proofs.Common.{sym, ap, ◌∙◌}
 use Rattle.sheets.specs.Sheets.{sheet_meaning}
 use Rattle.tickets.specs.Tickets.{tickets_of}
 use Rattle.script_runs.proofs.Assumed.{assumed_label}

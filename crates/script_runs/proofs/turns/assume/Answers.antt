@@ -7,7 +7,7 @@ use Rattle.session.specs.Requests.{answer_says, hands_back}
 use Rattle.tickets.specs.Tickets.{listed, tickets_of}
 use Rattle.script_runs.specs.Obeyed.{sided, assume_reply, make_assumed, break_assumed}
 use Rattle.script_runs.specs.Outcomes.{shown, issued as shown-issued, refused}
-use Rattle.script_runs.proofs.Assumed.{sided_is, Issued, when_issued, when_refused}
+use Rattle.script_runs.proofs.Assumed.{sided_is, when_issued, when_refused}
 use Rattle.script_runs.proofs.turns.assume.Goals as goal
 
 pub keep-requires : goal.keep-requires

@@ -1,9 +1,9 @@
-use Rattle.std.proofs.Common.{◌≡◌, ◌<◌, length, Some, None, sym, refl, ap, ◌∙◌, subst}
+use Rattle.std.proofs.Common.{◌≡◌, ◌<◌, length, sym, refl, ap, ◌∙◌, subst}
 use Rattle.sheets.specs.Sheets.{sheet_meaning, held_at}
 use Rattle.tickets.specs.Tickets.{listed, tickets_of, place_of}
 use Rattle.script_runs.specs.Outcomes.{shown}
 use Rattle.script_runs.specs.Obeyed.{sided, release_reply, make_released, break_released, ticket_at, kept_after, ticket_of}
-use Rattle.script_runs.proofs.Found.{Absent, absent, Present, present}
+use Rattle.script_runs.proofs.Found.{absent, present}
 use Rattle.script_runs.proofs.turns.release_from.Goals as goal
 
 pub bring-requires : goal.bring-requires
