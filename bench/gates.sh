@@ -9,7 +9,8 @@ cd "$(dirname "$0")/.."
 rounds=${1:-51}
 export LC_ALL=C
 
-[ -x target/bin/least_file ] || rt check least_file
+built=crates/least_either/out/least_either
+[ -x $built ] || (cd crates/least_either && rt run -- data/chain.cnf 3)
 work=$(mktemp -d)
 trap 'rm -rf "$work"' EXIT
 rustc --edition 2021 -O -o "$work/generate" bench/generate_gates.rs
@@ -22,7 +23,7 @@ slow=berkeley-abc
 run() {
     local program=$1 text=$work/$2 contacts=$3 start end status=0
     case $program in
-        least_file) set -- target/bin/least_file "$text.aag" "$contacts" ;;
+        least_file) set -- $built "$text.aag" "$contacts" ;;
         picosat) set -- picosat -n "$text.cnf" ;;
         berkeley-abc) set -- berkeley-abc -s -q "read_blif $text.blif; strash; sat" ;;
     esac

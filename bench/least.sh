@@ -9,7 +9,8 @@ rounds=${1:-101}
 loads=500
 export LC_ALL=C
 
-[ -x target/bin/least_file ] || rt check least_file
+built=crates/least_file/out/least_file
+[ -x $built ] || (cd crates/least_file && rt run -- data/chain.cnf 3)
 work=$(mktemp -d)
 trap 'rm -rf "$work"' EXIT
 rustc --edition 2021 -O -o "$work/generate" bench/generate.rs
@@ -21,7 +22,7 @@ find_peers picosat minisat
 run() {
     local program=$1 text=$work/$2.cnf contacts=$3 repeat=${4:-1} start end status=0
     case $program in
-        least_file) set -- target/bin/least_file "$text" "$contacts" "$repeat" ;;
+        least_file) set -- $built "$text" "$contacts" "$repeat" ;;
         picosat) set -- picosat -n "$text" ;;
         minisat) set -- minisat -verb=0 "$text" ;;
     esac

@@ -11,7 +11,8 @@ if ! command -v berkeley-abc > /dev/null; then
     echo "berkeley-abc is not installed: skipped"
     exit 0
 fi
-[ -x target/bin/terms_file ] || rt check terms_file
+built=crates/terms_file/out/terms_file
+[ -x $built ] || (cd crates/terms_file && rt run -- data/make.cnf data/break.cnf 3)
 work=$(mktemp -d)
 trap 'rm -rf "$work"' EXIT
 rustc --edition 2021 -O -o "$work/functions" bench/functions.rs
@@ -21,7 +22,7 @@ rustc --edition 2021 -O -o "$work/functions" bench/functions.rs
 run() {
     local program=$1 function=$2 contacts=$3 start end
     case $program in
-        terms_file) set -- target/bin/terms_file "$function.make.cnf" "$function.break.cnf" "$contacts" ;;
+        terms_file) set -- $built "$function.make.cnf" "$function.break.cnf" "$contacts" ;;
         abc) set -- berkeley-abc -c "read_blif $function.blif; strash; satclp -c; print_stats" ;;
     esac
     start=$EPOCHREALTIME
