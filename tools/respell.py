@@ -37,7 +37,7 @@ def read(path):
 
 
 def is_function_proof(path):
-    return path.endswith(("/Answers.antt", "/Invariants.antt", "/Proof.antt", "/Choices.antt"))
+    return "/proofs/" in path and path.endswith(("/Answers.antt", "/Invariants.antt", "/Proof.antt", "/Choices.antt"))
 
 
 def code_of(path, text):

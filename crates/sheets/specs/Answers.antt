@@ -37,7 +37,7 @@ written (Ok ls) out = over ls out
 written (Err f) out = out
 
 -- LEAST wrote the literals of a setting that is allowed and agrees with all held assumptions, and every other such setting is later
-pub record Earliest-Written (p : SheetMeaning) (out : List ℤ) : Type 0 where
+pub record EarliestWritten (p : SheetMeaning) (out : List ℤ) : Type 0 where
   pub setting : List Bool
   pub literals_written : take p.meaning.contacts out ≡ literals 0 setting
   pub sized : length setting ≡ p.meaning.contacts
@@ -46,11 +46,11 @@ pub record Earliest-Written (p : SheetMeaning) (out : List ℤ) : Type 0 where
   pub others_later : (y : List Bool) → length y ≡ p.meaning.contacts → stands p.meaning y ≡ true → fits (held_literals p.held) y ≡ true → (y ≢ setting) → number setting < number y
 
 pub record LeastLaw (p : SheetMeaning) (out : List ℤ) (r : Result (Unit {0}) SheetFault) : Type 0 where
-  pub accepted : r ≡ Ok tt → Earliest-Written p out
+  pub accepted : r ≡ Ok tt → EarliestWritten p out
   pub none_allowed : r ≡ Err NoneAllowed → Enough p.meaning.contacts (stands p.meaning) (held_literals p.held)
 
 -- WHY wrote a choice that no allowed setting agrees with all of, and every other such choice has a greater number
-pub record Reason-Written (p : SheetMeaning) (size : ℕ) (out : List ℤ) : Type 0 where
+pub record ReasonWritten (p : SheetMeaning) (size : ℕ) (out : List ℤ) : Type 0 where
   pub choice : List Bool
   pub literals_written : take size out ≡ chosen choice (held_literals p.held)
   pub size_told : size ≡ length (chosen choice (held_literals p.held))
@@ -59,5 +59,5 @@ pub record Reason-Written (p : SheetMeaning) (size : ℕ) (out : List ℤ) : Typ
   pub others_greater : (d : List Bool) → length d ≡ length p.held → Enough p.meaning.contacts (stands p.meaning) (chosen d (held_literals p.held)) → (d ≢ choice) → number choice < number d
 
 pub record WhyLaw (p : SheetMeaning) (out : List ℤ) (r : Result ℕ SheetFault) : Type 0 where
-  pub accepted : (size : ℕ) → r ≡ Ok size → Reason-Written p size out
+  pub accepted : (size : ℕ) → r ≡ Ok size → ReasonWritten p size out
   pub some_allowed : r ≡ Err SomeAllowed → NotEnough p.meaning.contacts (stands p.meaning) (held_literals p.held)

@@ -26,19 +26,19 @@ terms_answer p q size =
     cond (p.meaning.contacts == q.meaning.contacts) (cond (nat_lt size 64) (Err ShortBuffer) (card_answer p.meaning q.meaning)) (Err OtherContacts)
 
 -- TERMS wrote the records of a card: its terms cover every MAKE setting and no BREAK setting, and none can be shorter or left out
-pub record Card-Written (p q : SheetMeaning) (count : ℕ) (out : List Term) : Type 0 where
+pub record CardWritten (p q : SheetMeaning) (count : ℕ) (out : List Term) : Type 0 where
   pub terms : List (List ℤ)
   pub records_written : take count out ≡ map (sums p.meaning.contacts) terms
   pub count_told : count ≡ length terms
   pub card : Card p.meaning.contacts (stands p.meaning) (stands q.meaning) terms
 
 -- both sheets allow the setting of that number, which was picked while terms were made
-pub record Shared-Told (p q : SheetMeaning) (place : ℕ) : Type 0 where
+pub record SharedTold (p q : SheetMeaning) (place : ℕ) : Type 0 where
   pub setting : List Bool
   pub numbered : place ≡ number setting
   pub shared : Shared p.meaning.contacts (stands p.meaning) (stands q.meaning) setting
 
 pub record TermsLaw (p q : SheetMeaning) (out : List Term) (r : Result ℕ SheetFault) : Type 0 where
-  pub accepted : (count : ℕ) → r ≡ Ok count → Card-Written p q count out
-  pub both_allow : (place : ℕ) → r ≡ Err (BothAllow place) → Shared-Told p q place
+  pub accepted : (count : ℕ) → r ≡ Ok count → CardWritten p q count out
+  pub both_allow : (place : ℕ) → r ≡ Err (BothAllow place) → SharedTold p q place
   pub too_many : r ≡ Err TooManyTerms → Overfull p.meaning.contacts (stands p.meaning) (stands q.meaning)
