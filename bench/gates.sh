@@ -10,7 +10,7 @@ rounds=${1:-51}
 export LC_ALL=C
 
 built=crates/least_either/out/least_either
-[ -x $built ] || (cd crates/least_either && rt run -- data/chain.cnf 3)
+[ -x $built ] || (cd crates/least_either && rt run -- data/chain.cnf 3 > /dev/null)
 work=$(mktemp -d)
 trap 'rm -rf "$work"' EXIT
 rustc --edition 2021 -O -o "$work/generate" bench/generate_gates.rs

@@ -10,7 +10,7 @@ loads=500
 export LC_ALL=C
 
 built=crates/least_file/out/least_file
-[ -x $built ] || (cd crates/least_file && rt run -- data/chain.cnf 3)
+[ -x $built ] || (cd crates/least_file && rt run -- data/chain.cnf 3 > /dev/null)
 work=$(mktemp -d)
 trap 'rm -rf "$work"' EXIT
 rustc --edition 2021 -O -o "$work/generate" bench/generate.rs

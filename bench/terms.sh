@@ -12,7 +12,7 @@ if ! command -v berkeley-abc > /dev/null; then
     exit 0
 fi
 built=crates/terms_file/out/terms_file
-[ -x $built ] || (cd crates/terms_file && rt run -- data/make.cnf data/break.cnf 3)
+[ -x $built ] || (cd crates/terms_file && rt run -- data/make.cnf data/break.cnf 3 > /dev/null)
 work=$(mktemp -d)
 trap 'rm -rf "$work"' EXIT
 rustc --edition 2021 -O -o "$work/functions" bench/functions.rs
