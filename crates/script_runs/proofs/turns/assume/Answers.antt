@@ -6,7 +6,7 @@ use Rattle.model.specs.Calls.{accepted, denied, issued, nothing}
 use Rattle.session.specs.Requests.{answer_says, hands_back}
 use Rattle.tickets.specs.Tickets.{listed, tickets_of}
 use Rattle.script_runs.specs.Obeyed.{sided, assume_reply, make_assumed, break_assumed}
-use Rattle.script_runs.specs.Outcomes.{shown, issued as shown-issued, refused}
+use Rattle.script_runs.specs.Outcomes.{shown, issued as shown_issued, refused}
 use Rattle.script_runs.proofs.Assumed.{sided_is, when_issued, when_refused}
 use Rattle.script_runs.proofs.turns.assume.Goals as goal
 
@@ -38,7 +38,7 @@ returns-in-Issued g c =
     let break_now : sheet_meaning g.B.Solver c.put_assume.new.brk ≡ break_assumed side b l = told.break_after ∙ ap (break_assumed side b) lit in
     let after = when_issued s l t (listed c.args.tickets.now) said c.requires.its_own in
     record {
-      answer = ap (λ k. shown-issued k c.number.result) c.label.ensures.label ∙ ap (shown-issued t.label) c.number.ensures.number ∙ ap (shown 0) said;
+      answer = ap (λ k. shown_issued k c.number.result) c.label.ensures.label ∙ ap (shown_issued t.label) c.number.ensures.number ∙ ap (shown 0) said;
       make_after = make_now;
       break_after = break_now;
       its_own = c.keep.ensures.last
