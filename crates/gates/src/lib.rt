@@ -4,7 +4,7 @@
 ghost use Rattle.std.specs.Prelude.{◌≡◌, ◌≤◌, true, None};
 ghost use Rattle.literals.specs.Literals.{first_unnamed};
 ghost use Rattle.settings.specs.Readings.{reading};
-ghost use Rattle.search.specs.Search.{Says};
+ghost use Rattle.search.specs.Search.{Says, Sees};
 ghost use Rattle.search.specs.Assignments.{undecided};
 ghost use Rattle.rules.specs.Rules.{Choice};
 ghost use Rattle.solver.specs.Meaning.{Answers};
@@ -20,7 +20,8 @@ use lanes::{count_undecided, try_all};
 use literals::{LiteralSet, find_unnamed};
 use networks::Circuit;
 use rules::{Scan, find_forced_in_both, first_undecided};
-use search::{Assignment, Found, Look};
+use search::leaps::{Leap, Sight, find_leaping};
+use search::{Assignment, Found};
 use settings::Setting;
 use solver::Solver;
 
@@ -152,10 +153,10 @@ impl GateSolver<'_> {
     }
 
     // All settings that agree with an assignment that leaves at most six inputs undecided, at once.
-    fn try_lanes(&self, assignment: Assignment) -> Found
+    fn try_lanes(&self, assignment: Assignment) -> Sight
         requires ordered { InOrder self.now }
         requires few { undecided (gate_contacts self.now) assignment ≤ 6 }
-        ensures says { Says (gate_contacts self.now) (gate_good self.now) assignment result }
+        ensures sees { Sees (gate_contacts self.now) (gate_good self.now) assignment result }
     {
         match try_all(
             self.circuit,
@@ -163,8 +164,8 @@ impl GateSolver<'_> {
             self.additions.bars(),
             assignment,
         ) {
-            Some(good) => Found::MetBy(good),
-            None => Found::Conflict,
+            Some(good) => Sight::MetBy(good),
+            None => Sight::Plain(Found::Conflict),
         }
     }
 
@@ -185,14 +186,14 @@ impl GateSolver<'_> {
         requires named { first_unnamed (gate_contacts self.now) literals.now ≡ None }
         ensures answer { Answers (gate_meaning self.now) literals.now result }
     {
-        match search::find(self, Assignment::of(LiteralSet::of(literals))) {
+        match find_leaping(self, Assignment::of(LiteralSet::of(literals))) {
             Some(found) => Some(found.setting()),
             None => None,
         }
     }
 }
 
-impl<'a> Look for GateSolver<'a> {
+impl<'a> Leap for GateSolver<'a> {
     ghost size = { gate_contacts };
 
     ghost good = { gate_good };
@@ -205,14 +206,14 @@ impl<'a> Look for GateSolver<'a> {
         self.circuit.inputs
     }
 
-    fn look(&self, assignment: Assignment) -> Found {
+    fn leap(&self, assignment: Assignment) -> Sight {
         let undecided = count_undecided(self.circuit.inputs, assignment);
         if undecided <= AT_ONCE {
             self.try_lanes(assignment)
         } else if undecided <= TRIED_ALL {
-            self.split(assignment)
+            Sight::Plain(self.split(assignment))
         } else {
-            self.look_ahead(assignment)
+            Sight::Plain(self.look_ahead(assignment))
         }
     }
 }

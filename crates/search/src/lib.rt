@@ -5,8 +5,11 @@ ghost use Rattle.std.specs.Prelude.{◌≡◌, ℕ, ◌<◌, ◌≤◌, Bool, Li
 ghost use Rattle.search.specs.Assignments.{decided, with_value, low_mask, clashing, from_set, low_half, same};
 ghost use Rattle.search.specs.Search.{depth, branches, Says, Answer};
 
+use leaps::{Steps, find_leaping};
 use literals::{LiteralSet, has_bit};
 use settings::Setting;
+
+pub mod leaps;
 
 // What is decided so far: variable k + 1 closed where bit k of `closed` is set, and open where bit k of `opened` is.
 #[derive(Clone, Copy)]
@@ -96,8 +99,6 @@ pub enum Found {
     Narrowed(Assignment),
     // the assignment, with the rest open, is a good setting
     Met,
-    // this one, with the rest open, is a good setting, and agrees with the assignment
-    MetBy(Assignment),
     // nothing is forced: an undecided variable to try
     Split(u8),
 }
@@ -182,33 +183,5 @@ pub fn find<L: Look>(look: &L, start: Assignment) -> Option<Assignment>
     requires ordered { L.Look.ordered look.now }
     ensures answer { Answer (L.Look.size look.now) (L.Look.good look.now) start result }
 {
-    if start.clashes(look.variables()) {
-        return None;
-    }
-    let mut pending = filled_with(start);
-    let mut state = State::Free;
-    let mut current = start;
-    'machine: loop {
-        match (state, look.look(current)) {
-            (_, Found::Met) => return Some(current),
-            (_, Found::MetBy(good)) => return Some(good),
-            (_, Found::Narrowed(narrower)) => current = narrower,
-            (_, Found::Forced { variable, closed }) => current = current.with(variable, closed),
-            (State::Free, Found::Conflict) => return None,
-            (State::Tried(last), Found::Conflict) => {
-                current = pending[last];
-                state = State::with_pending(last);
-            }
-            (_, Found::Split(variable)) => {
-                let count = state.pending();
-                let Branches {
-                    first,
-                    pending: second,
-                } = branch(current, variable);
-                pending[count] = second;
-                current = first;
-                state = State::Tried(count);
-            }
-        }
-    }
+    find_leaping(&Steps { look }, start)
 }
