@@ -1,10 +1,13 @@
 // What a call refuses with: a fault of a lower layer lies whole inside that of the layer above.
 #![tactic(auto)]
 
-ghost use Rattle.std.specs.Prelude.{◌≡◌};
+ghost use Rattle.std.specs.Prelude.{◌≡◌, Some};
 ghost use Rattle.faults.specs.Refusals.{text_refusal, store_refusal, solver_refusal, sheet_refusal};
+ghost use Rattle.faults.specs.Shown.{layer_name, refusal_text, brief_text};
 ghost use Rattle.faults.specs.declared.StoreFault.TheVariants.{Text as InText};
 ghost use Rattle.faults.specs.declared.SheetFault.TheVariants.{Store as InStore, Solver as InSolver};
+
+use std::fmt;
 
 // The first fault of a text, with the place of its first byte.
 #[derive(Clone, Copy, PartialEq, Eq)]
@@ -77,6 +80,12 @@ pub struct Refusal {
     pub layer: Layer,
 }
 
+// A refusal that prints without its layer.
+#[derive(Clone, Copy)]
+pub struct Brief {
+    pub refusal: Refusal,
+}
+
 impl From<TextFault> for StoreFault {
     ghost from_gives = { λ f r. r ≡ InText f };
 
@@ -111,47 +120,47 @@ fn at_layer(number: u8, place: usize, layer: Layer) -> Refusal
     }
 }
 
-impl TextFault {
-    pub fn refusal(&self) -> Refusal
-        ensures numbered { result ≡ text_refusal self.now }
-    {
-        match self {
-            TextFault::Shape(place) => at_layer(1, *place, Layer::Text),
-            TextFault::Limit(place) => at_layer(2, *place, Layer::Text),
+impl From<TextFault> for Refusal {
+    ghost from_gives = { λ f r. r ≡ text_refusal f };
+
+    fn from(fault: TextFault) -> Self {
+        match fault {
+            TextFault::Shape(place) => at_layer(1, place, Layer::Text),
+            TextFault::Limit(place) => at_layer(2, place, Layer::Text),
         }
     }
 }
 
-impl StoreFault {
-    pub fn refusal(&self) -> Refusal
-        ensures numbered { result ≡ store_refusal self.now }
-    {
-        match self {
-            StoreFault::Text(fault) => fault.refusal(),
-            StoreFault::Short(length) => at_layer(3, *length, Layer::Store),
+impl From<StoreFault> for Refusal {
+    ghost from_gives = { λ f r. r ≡ store_refusal f };
+
+    fn from(fault: StoreFault) -> Self {
+        match fault {
+            StoreFault::Text(fault) => Refusal::from(fault),
+            StoreFault::Short(length) => at_layer(3, length, Layer::Store),
         }
     }
 }
 
-impl SolverFault {
-    pub fn refusal(&self) -> Refusal
-        ensures numbered { result ≡ solver_refusal self.now }
-    {
-        match self {
-            SolverFault::BadLiteral(place) => at_layer(5, *place, Layer::Solver),
+impl From<SolverFault> for Refusal {
+    ghost from_gives = { λ f r. r ≡ solver_refusal f };
+
+    fn from(fault: SolverFault) -> Self {
+        match fault {
+            SolverFault::BadLiteral(place) => at_layer(5, place, Layer::Solver),
             SolverFault::TooManyRules => at_layer(6, 0, Layer::Solver),
             SolverFault::TooManyBars => at_layer(15, 0, Layer::Solver),
         }
     }
 }
 
-impl SheetFault {
-    pub fn refusal(&self) -> Refusal
-        ensures numbered { result ≡ sheet_refusal self.now }
-    {
-        match self {
-            SheetFault::Store(fault) => fault.refusal(),
-            SheetFault::Solver(fault) => fault.refusal(),
+impl From<SheetFault> for Refusal {
+    ghost from_gives = { λ f r. r ≡ sheet_refusal f };
+
+    fn from(fault: SheetFault) -> Self {
+        match fault {
+            SheetFault::Store(fault) => Refusal::from(fault),
+            SheetFault::Solver(fault) => Refusal::from(fault),
             SheetFault::WrongContacts => at_layer(4, 0, Layer::Sheet),
             SheetFault::TooManyHeld => at_layer(7, 0, Layer::Sheet),
             SheetFault::TooManyTickets => at_layer(8, 0, Layer::Sheet),
@@ -160,8 +169,48 @@ impl SheetFault {
             SheetFault::NoneAllowed => at_layer(11, 0, Layer::Sheet),
             SheetFault::SomeAllowed => at_layer(12, 0, Layer::Sheet),
             SheetFault::OtherContacts => at_layer(13, 0, Layer::Sheet),
-            SheetFault::BothAllow(setting) => at_layer(14, *setting as usize, Layer::Sheet),
+            SheetFault::BothAllow(setting) => at_layer(14, setting as usize, Layer::Sheet),
             SheetFault::TooManyTerms => at_layer(15, 0, Layer::Sheet),
         }
+    }
+}
+
+impl Refusal {
+    pub fn brief(self) -> Brief
+        ensures same { result.refusal ≡ self }
+    {
+        Brief { refusal: self }
+    }
+}
+
+impl fmt::Display for Layer {
+    ghost output = { λ layer. Some (layer_name layer) };
+
+    fn fmt<W: fmt::Write>(&self, f: &mut fmt::Formatter<W>) -> fmt::Result {
+        f.write_str(match self {
+            Layer::Text => "text",
+            Layer::Store => "store",
+            Layer::Solver => "solver",
+            Layer::Sheet => "sheet",
+        })
+    }
+}
+
+// `refused`, the number, the place and the layer.
+impl fmt::Display for Refusal {
+    ghost output = { λ refusal. Some (refusal_text refusal) };
+
+    fn fmt<W: fmt::Write>(&self, f: &mut fmt::Formatter<W>) -> fmt::Result {
+        let brief = self.brief();
+        write!(f, "{brief} {}", self.layer)
+    }
+}
+
+// `refused`, the number and the place.
+impl fmt::Display for Brief {
+    ghost output = { λ brief. Some (brief_text brief) };
+
+    fn fmt<W: fmt::Write>(&self, f: &mut fmt::Formatter<W>) -> fmt::Result {
+        write!(f, "refused {} {}", self.refusal.number, self.refusal.place)
     }
 }

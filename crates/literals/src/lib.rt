@@ -1,13 +1,16 @@
 // Literals, and sets of them as two masks.
 #![tactic(auto)]
 
-ghost use Rattle.std.specs.Prelude.{◌≡◌, ◌%◌, true, length, ◌==◌};
-ghost use Rattle.literals.specs.Literals.{names, first_unnamed, place_within, no_literals, inserted, with_literal, set_of, has};
+ghost use Rattle.std.specs.Prelude.{◌≡◌, ◌%◌, true, Some, ◌==◌};
+ghost use Rattle.literals.specs.Literals.{names, first_unnamed, no_literals, inserted, with_literal, set_of, has};
 ghost use Rattle.literals.specs.Bits.{bit};
+ghost use Rattle.literals.specs.Shown.{spaced_text};
+
+use std::fmt;
 
 // A set of literals over at most 64 variables: bit k - 1 of `closed` stands for the literal k, and bit k - 1 of `opened` for -k.
 // Lists of the same literals, in any order or number, make one set, so a rule or a bar is such a set.
-#[derive(Clone, Copy)]
+#[derive(Clone, Copy, PartialEq, Eq)]
 pub struct LiteralSet {
     pub closed: u64,
     pub opened: u64,
@@ -26,28 +29,13 @@ pub fn names_one_of(n: usize, literal: i8) -> bool
     }
 }
 
-// How many literals stand before the first that names none of n variables.
-fn named_front(n: usize, literals: &[i8]) -> usize
-    ensures stops { first_unnamed n literals.now ≡ place_within result (length literals.now) }
-{
-    for (place, literal) in literals.iter().enumerate() {
-        if !names_one_of(n, *literal) {
-            return place;
-        }
-    }
-    literals.len()
-}
-
 // The place of the first literal that names none of n variables.
 pub fn find_unnamed(n: usize, literals: &[i8]) -> Option<usize>
     ensures first { result ≡ first_unnamed n literals.now }
 {
-    let front = named_front(n, literals);
-    if front < literals.len() {
-        Some(front)
-    } else {
-        None
-    }
+    literals
+        .iter()
+        .position(|literal| !names_one_of(n, *literal))
 }
 
 fn is_odd(number: u64) -> bool
@@ -101,17 +89,6 @@ impl LiteralSet {
         }
     }
 
-    // The set of the literals of a list.
-    pub fn of(literals: &[i8]) -> Self
-        ensures collected { result ≡ set_of literals.now }
-    {
-        let mut set = LiteralSet::empty();
-        for literal in literals {
-            set = set.with(*literal);
-        }
-        set
-    }
-
     // Whether the literal is in the set that wants variable index + 1 closed, or open.
     pub fn has(self, index: usize, closed: bool) -> bool
         ensures held { result ≡ has self index closed }
@@ -121,5 +98,33 @@ impl LiteralSet {
         } else {
             has_bit(self.opened, index)
         }
+    }
+}
+
+// The set of the literals of a list.
+impl From<&[i8]> for LiteralSet {
+    ghost from_gives = { λ literals set. set ≡ set_of literals.now };
+
+    fn from(literals: &[i8]) -> Self {
+        literals
+            .iter()
+            .fold(LiteralSet::empty(), |set, literal| set.with(*literal))
+    }
+}
+
+// Literals that print one behind the other, each with a space before it.
+#[derive(Clone, Copy)]
+pub struct Spaced<'a> {
+    pub literals: &'a [i8],
+}
+
+impl fmt::Display for Spaced<'_> {
+    ghost output = { λ spaced. Some (spaced_text spaced.literals.now) };
+
+    fn fmt<W: fmt::Write>(&self, f: &mut fmt::Formatter<W>) -> fmt::Result {
+        for literal in self.literals {
+            write!(f, " {literal}")?;
+        }
+        Ok(())
     }
 }

@@ -20,11 +20,6 @@ abbrev pub fits : List ℤ → List Bool → Bool
 fits [] x = true
 fits (l ∷ ls) x = agrees x l && fits ls x
 
--- a setting agrees with one of the literals (true), or disagrees with one (false)
-abbrev pub any_agrees : Bool → List ℤ → List Bool → Bool
-any_agrees true ls x = met ls x
-any_agrees false ls x = not (fits ls x)
-
 -- one of several lists of literals covers a setting: the setting fits it
 abbrev pub covered : List (List ℤ) → List Bool → Bool
 covered [] x = false
@@ -64,11 +59,6 @@ covers s x = covers_from 0 s x
 -- the opposite literals: a rule of them is met exactly where a bar of the literals does not cover
 abbrev pub opposite : LiteralSet → LiteralSet
 opposite s = record { closed = s.opened; opened = s.closed }
-
--- the set has a literal that a contact agrees with (false), or one that a contact opposes (true)
-abbrev pub any_held : Bool → ℕ → LiteralSet → List Bool → Bool
-any_held false j s x = meets_from j s x
-any_held true j s x = not (covers_from j s x)
 
 -- every rule is met; some bar covers
 abbrev pub all_met : List LiteralSet → List Bool → Bool

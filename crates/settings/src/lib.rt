@@ -3,7 +3,7 @@
 
 ghost use Rattle.std.specs.Prelude.{◌≡◌, ◌<◌, ◌≤◌, min, false, slice_index_or};
 ghost use Rattle.tables.specs.Tables.{items};
-ghost use Rattle.settings.specs.Settings.{agrees, met, fits, any_agrees, meets, covers, any_held, literal, literals};
+ghost use Rattle.settings.specs.Settings.{agrees, met, fits, meets, covers, literal, literals};
 ghost use Rattle.settings.specs.Readings.{reading, setting_of};
 ghost use Rattle.settings.specs.TermRecords.{record_covers};
 ghost use Rattle.settings.specs.Laws.{SetsLaw, SettingLaw};
@@ -15,14 +15,14 @@ mod term_records;
 
 // A contact is open or closed, and contacts are numbered from 1 to n, with n at most 32. A setting says open or closed for each:
 // bit k - 1 of `closed` is set where contact k is closed.
-#[derive(Clone, Copy)]
+#[derive(Clone, Copy, PartialEq, Eq)]
 pub struct Setting {
     pub closed: u32,
 }
 
 // A term as it is written: the sum of the weights 2 ^ (n - k) of the contacts k that it wants closed, and of those that it wants open.
 // It covers the settings that agree with all that it wants.
-#[derive(Clone, Copy)]
+#[derive(Clone, Copy, PartialEq, Eq)]
 pub struct Term {
     pub closed: u32,
     pub opened: u32,
@@ -58,56 +58,32 @@ impl Setting {
         }
     }
 
-    // Whether it agrees with one of the literals, or disagrees with one.
-    fn any_agrees(self, n: usize, literals: &[i8], wanted: bool) -> bool
-        ensures any { result ≡ any_agrees wanted literals.now (reading n self) }
-    {
-        for literal in literals {
-            if self.agrees(n, *literal) == wanted {
-                return true;
-            }
-        }
-        false
-    }
-
     // Whether it meets a rule: it agrees with at least one of the literals.
     pub fn meets(self, n: usize, rule: &[i8]) -> bool
         ensures met { result ≡ met rule.now (reading n self) }
     {
-        self.any_agrees(n, rule, true)
+        rule.iter().any(|literal| self.agrees(n, *literal))
     }
 
     // Whether it agrees with all the literals.
     pub fn fits(self, n: usize, literals: &[i8]) -> bool
         ensures agreement { result ≡ fits literals.now (reading n self) }
     {
-        !self.any_agrees(n, literals, false)
-    }
-
-    // Whether the set has the literal that some contact agrees with, or the one that some contact opposes.
-    fn any_held(self, n: usize, set: LiteralSet, opposed: bool) -> bool
-        ensures any { result ≡ any_held opposed 0 set (reading n self) }
-    {
-        for index in 0..n {
-            if set.has(index, self.is_closed(n, index) != opposed) {
-                return true;
-            }
-        }
-        false
+        literals.iter().all(|literal| self.agrees(n, *literal))
     }
 
     // Whether it meets a rule that is the set of its literals.
     pub fn meets_set(self, n: usize, rule: LiteralSet) -> bool
         ensures met { result ≡ meets rule (reading n self) }
     {
-        self.any_held(n, rule, false)
+        (0..n).any(|index| rule.has(index, has_bit(self.closed as u64, index)))
     }
 
-    // Whether a bar that is the set of its literals covers it: it agrees with all of them.
+    // Whether a bar that is the set of its literals covers it: none of them is opposed by a contact.
     pub fn is_covered(self, n: usize, bar: LiteralSet) -> bool
         ensures covered { result ≡ covers bar (reading n self) }
     {
-        !self.any_held(n, bar, true)
+        (0..n).all(|index| !bar.has(index, !has_bit(self.closed as u64, index)))
     }
 
     // The literals of the first contacts, in contact order.
@@ -128,12 +104,14 @@ impl Setting {
     {
         self.first_literals(n.min(32))
     }
+}
 
-    // The setting in which the contacts are closed that the literals want closed.
-    pub fn from_literals(literals: &[i8]) -> Self
-        ensures wanted { result ≡ setting_of literals.now }
-    {
-        let set = LiteralSet::of(literals);
+// The setting in which the contacts are closed that the literals want closed.
+impl From<&[i8]> for Setting {
+    ghost from_gives = { λ literals setting. setting ≡ setting_of literals.now };
+
+    fn from(literals: &[i8]) -> Self {
+        let set = LiteralSet::from(literals);
         Setting {
             closed: (set.closed & 0xffff_ffff) as u32,
         }

@@ -5,16 +5,6 @@ ghost use Rattle.tables.specs.Tables.{items, appended, room_for, without};
 
 use super::{Full, Table};
 
-fn entry_of<T: Copy>(entries: &[T], place: usize) -> Option<T>
-    ensures entry { result ≡ slice_get entries.now place }
-{
-    if place < entries.len() {
-        Some(entries[place])
-    } else {
-        None
-    }
-}
-
 impl<T: Copy, const N: usize> Table<T, N> {
     // An empty table; `fill` stands in the slots that are not used.
     pub fn new(fill: T) -> Self
@@ -42,7 +32,7 @@ impl<T: Copy, const N: usize> Table<T, N> {
     pub fn get(&self, place: usize) -> Option<T>
         ensures entry { result ≡ slice_get (items self.now) place }
     {
-        entry_of(self.as_slice(), place)
+        self.as_slice().get(place).copied()
     }
 
     fn place_last(&mut self, entry: T)
