@@ -10,7 +10,7 @@ mod head;
 use texts::Words;
 
 // A gate is the AND of its two sides. A side is a literal: 2k is variable k, 2k + 1 its opposite, 0 false and 1 true.
-#[derive(Clone, Copy)]
+#[derive(Clone, Copy, PartialEq, Eq)]
 pub struct Gate {
     pub left: u16,
     pub right: u16,

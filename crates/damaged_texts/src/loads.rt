@@ -1,15 +1,9 @@
 // Loads texts into stores of marked records, which tell whether a record was written.
 use crate::outcome::Outcome;
 use aiger::Gate;
-use faults::SheetFault;
+use faults::{Refusal, SheetFault};
 use literals::LiteralSet;
 use std::alloc::{AllocError, Global};
-
-#[derive(Clone, Copy)]
-pub enum Format {
-    Clauses,
-    Gates,
-}
 
 // No text of the tables gives such a rule or gate.
 const MARKED_RULE: LiteralSet = LiteralSet {
@@ -22,83 +16,57 @@ const MARKED_GATE: Gate = Gate {
     right: u16::MAX,
 };
 
-fn are_marked_rules(rules: &[LiteralSet]) -> bool {
-    for rule in rules {
-        if rule.closed != u64::MAX || rule.opened != u64::MAX {
-            return false;
+// What a text that was taken has: its numbers of variables and rules, or of inputs and gates.
+#[derive(Clone, Copy)]
+struct Counts {
+    width: usize,
+    records: usize,
+}
+
+// What the loading came to, if the records that are not the text's are as before.
+fn outcome_of<T: PartialEq>(store: &[T], mark: &T, answer: Result<Counts, SheetFault>) -> Outcome {
+    let used = match answer {
+        Ok(counts) => counts.records.min(store.len()),
+        Err(_) => 0,
+    };
+    if !store[used..].iter().all(|record| record == mark) {
+        return Outcome::Touched;
+    }
+    match answer {
+        Ok(counts) => Outcome::Accepted(counts.width, counts.records),
+        Err(fault) => {
+            let refusal = Refusal::from(fault);
+            Outcome::Refused(refusal.number, refusal.place, refusal.layer)
         }
     }
-    true
 }
 
-fn are_marked_gates(gates: &[Gate]) -> bool {
-    for gate in gates {
-        if gate.left != u16::MAX || gate.right != u16::MAX {
-            return false;
-        }
-    }
-    true
-}
-
-// A text that was taken, if the records behind its own are as before.
-fn accepted(width: usize, count: usize, kept: bool) -> Outcome {
-    if kept {
-        Outcome::Accepted(width, count)
-    } else {
-        Outcome::Touched
-    }
-}
-
-// A refusal, if all records are as before.
-fn refused(fault: SheetFault, kept: bool) -> Outcome {
-    if kept {
-        let refusal = fault.refusal();
-        Outcome::Refused(refusal.number, refusal.place, refusal.layer)
-    } else {
-        Outcome::Touched
-    }
-}
-
-fn load_clauses(text: &[u8], n: usize, store: &mut [LiteralSet]) -> Outcome {
-    match dimacs_load::load(text, n, store) {
-        Ok(size) => {
-            let used = size.count.min(store.len());
-            accepted(size.vars, size.count, are_marked_rules(&store[used..]))
-        }
-        Err(fault) => refused(fault, are_marked_rules(store)),
-    }
-}
-
-fn load_gates(text: &[u8], n: usize, store: &mut [Gate]) -> Outcome {
-    match aiger_load::load(text, n, store) {
-        Ok(network) => {
-            let used = network.count.min(store.len());
-            accepted(
-                network.inputs,
-                network.count,
-                are_marked_gates(&store[used..]),
-            )
-        }
-        Err(fault) => refused(fault, are_marked_gates(store)),
-    }
-}
-
-// Loads the text for n contacts into a store of that many records.
-pub fn load(
+// Loads a clause text for n contacts into a store of that many records.
+pub fn load_clauses(
     heap: Global,
-    format: Format,
     text: &[u8],
     n: usize,
     records: usize,
 ) -> Result<Outcome, AllocError> {
-    match format {
-        Format::Clauses => {
-            let mut store = vec![in heap; MARKED_RULE; records]?;
-            Ok(load_clauses(text, n, store.as_mut_slice()))
-        }
-        Format::Gates => {
-            let mut store = vec![in heap; MARKED_GATE; records]?;
-            Ok(load_gates(text, n, store.as_mut_slice()))
-        }
-    }
+    let mut store = vec![in heap; MARKED_RULE; records]?;
+    let answer = dimacs_load::load(text, n, store.as_mut_slice()).map(|size| Counts {
+        width: size.vars,
+        records: size.count,
+    });
+    Ok(outcome_of(store.as_slice(), &MARKED_RULE, answer))
+}
+
+// The same for a gate text.
+pub fn load_gates(
+    heap: Global,
+    text: &[u8],
+    n: usize,
+    records: usize,
+) -> Result<Outcome, AllocError> {
+    let mut store = vec![in heap; MARKED_GATE; records]?;
+    let answer = aiger_load::load(text, n, store.as_mut_slice()).map(|network| Counts {
+        width: network.inputs,
+        records: network.count,
+    });
+    Ok(outcome_of(store.as_slice(), &MARKED_GATE, answer))
 }

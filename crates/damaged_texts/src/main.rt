@@ -3,7 +3,7 @@
 
 use gate_rows::{GATE_ROWS, HEADING_ROWS, INPUT_ROWS};
 use heading_rows::{COMMENT_ROWS, COUNT_ROWS, FORMAT_ROWS, VARIABLE_ROWS};
-use loads::Format::{Clauses, Gates};
+use loads::{load_clauses, load_gates};
 use long_rows::{LONG_CLAUSE_ROWS, LONG_GATE_ROWS};
 use rule_rows::{CLOSING_ROWS, LITERAL_ROWS, ROOM_ROWS};
 use tally::Tally;
@@ -18,18 +18,18 @@ mod rule_rows;
 mod tally;
 
 fn run_all(rt: &HostRuntime, tally: &mut Tally) -> anyhow::Result<()> {
-    tally.run(rt, Clauses, &FORMAT_ROWS)?;
-    tally.run(rt, Clauses, &VARIABLE_ROWS)?;
-    tally.run(rt, Clauses, &COUNT_ROWS)?;
-    tally.run(rt, Clauses, &COMMENT_ROWS)?;
-    tally.run(rt, Clauses, &LITERAL_ROWS)?;
-    tally.run(rt, Clauses, &CLOSING_ROWS)?;
-    tally.run(rt, Clauses, &ROOM_ROWS)?;
-    tally.run_long(rt, Clauses, &LONG_CLAUSE_ROWS)?;
-    tally.run(rt, Gates, &HEADING_ROWS)?;
-    tally.run(rt, Gates, &INPUT_ROWS)?;
-    tally.run(rt, Gates, &GATE_ROWS)?;
-    tally.run_long(rt, Gates, &LONG_GATE_ROWS)
+    tally.run(rt, &load_clauses, &FORMAT_ROWS)?;
+    tally.run(rt, &load_clauses, &VARIABLE_ROWS)?;
+    tally.run(rt, &load_clauses, &COUNT_ROWS)?;
+    tally.run(rt, &load_clauses, &COMMENT_ROWS)?;
+    tally.run(rt, &load_clauses, &LITERAL_ROWS)?;
+    tally.run(rt, &load_clauses, &CLOSING_ROWS)?;
+    tally.run(rt, &load_clauses, &ROOM_ROWS)?;
+    tally.run_long(rt, &load_clauses, &LONG_CLAUSE_ROWS)?;
+    tally.run(rt, &load_gates, &HEADING_ROWS)?;
+    tally.run(rt, &load_gates, &INPUT_ROWS)?;
+    tally.run(rt, &load_gates, &GATE_ROWS)?;
+    tally.run_long(rt, &load_gates, &LONG_GATE_ROWS)
 }
 
 fn main(rt: HostRuntime) -> anyhow::Result<()> {

@@ -2,6 +2,7 @@
 use faults::Layer;
 use std::fmt;
 
+// A refusal is the bare number, place and layer that the two formats ask for, since each row of a table has them so: as `Refusal` a row would say no more in three lines.
 #[derive(Clone, Copy, PartialEq)]
 pub enum Outcome {
     // the variables and rules of a clause text, or the inputs and gates of a gate text
@@ -12,23 +13,11 @@ pub enum Outcome {
     Touched,
 }
 
-fn name_of(layer: Layer) -> &'static str {
-    match layer {
-        Layer::Text => "text",
-        Layer::Store => "store",
-        Layer::Solver => "solver",
-        Layer::Sheet => "sheet",
-    }
-}
-
 impl fmt::Display for Outcome {
     fn fmt<W: fmt::Write>(&self, f: &mut fmt::Formatter<W>) -> fmt::Result {
         match self {
             Outcome::Accepted(width, count) => write!(f, "accepted {width} {count}"),
-            Outcome::Refused(number, place, layer) => {
-                let name = name_of(*layer);
-                write!(f, "refused {number} {place} {name}")
-            }
+            Outcome::Refused(number, place, layer) => write!(f, "refused {number} {place} {layer}"),
             Outcome::Touched => write!(f, "a changed store"),
         }
     }

@@ -1,5 +1,4 @@
 // Runs rows, prints those that come out otherwise than is due, and counts.
-use crate::loads::{Format, load};
 use crate::outcome::Outcome;
 use crate::rows::{LongRow, Row};
 use std::alloc::{AllocError, Global};
@@ -37,23 +36,33 @@ impl Tally {
         Ok(())
     }
 
-    pub fn run(&mut self, rt: &HostRuntime, format: Format, rows: &[Row]) -> anyhow::Result<()> {
+    // Loads each row's text by `load`.
+    pub fn run<F: Fn(Global, &[u8], usize, usize) -> Result<Outcome, AllocError>>(
+        &mut self,
+        rt: &HostRuntime,
+        load: &F,
+        rows: &[Row],
+    ) -> anyhow::Result<()>
+        requires callable { F.IsAlwaysCallable load.now }
+    {
         for Row(text, n, records, due) in rows {
-            let came = load(rt.alloc(), format, text, *n, *records)?;
+            let came = load(rt.alloc(), text, *n, *records)?;
             self.count(rt, came, *due)?;
         }
         Ok(())
     }
 
-    pub fn run_long(
+    pub fn run_long<F: Fn(Global, &[u8], usize, usize) -> Result<Outcome, AllocError>>(
         &mut self,
         rt: &HostRuntime,
-        format: Format,
+        load: &F,
         rows: &[LongRow],
-    ) -> anyhow::Result<()> {
+    ) -> anyhow::Result<()>
+        requires callable { F.IsAlwaysCallable load.now }
+    {
         for row in rows {
             let text = text_of(rt.alloc(), row)?;
-            let came = load(rt.alloc(), format, text.as_slice(), row.n, row.records)?;
+            let came = load(rt.alloc(), text.as_slice(), row.n, row.records)?;
             self.count(rt, came, row.due)?;
         }
         Ok(())
