@@ -33,7 +33,7 @@ fn append(
     if let Some(place) = find_unnamed(n, literals) {
         return Err(SolverFault::BadLiteral(place));
     }
-    match held.push(LiteralSet::of(literals)) {
+    match held.push(LiteralSet::from(literals)) {
         Ok(()) => Ok(()),
         Err(_) => Err(full),
     }

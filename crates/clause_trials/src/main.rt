@@ -142,7 +142,7 @@ impl Trial {
     fn records(&self) -> [LiteralSet; 24] {
         let mut records = [LiteralSet::empty(); 24];
         for place in 0..MOST_RULES {
-            records[place] = LiteralSet::of(&self.rules[place]);
+            records[place] = LiteralSet::from(&self.rules[place]);
         }
         records
     }

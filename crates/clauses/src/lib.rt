@@ -109,7 +109,7 @@ impl ClauseSolver<'_> {
         requires named { first_unnamed self.now.contacts literals.now ≡ None }
         ensures answer { Answers (clause_meaning self.now) literals.now result }
     {
-        match search::find(self, Assignment::of(LiteralSet::of(literals))) {
+        match search::find(self, Assignment::of(LiteralSet::from(literals))) {
             Some(found) => Some(found.setting()),
             None => None,
         }

@@ -186,7 +186,7 @@ impl GateSolver<'_> {
         requires named { first_unnamed (gate_contacts self.now) literals.now ≡ None }
         ensures answer { Answers (gate_meaning self.now) literals.now result }
     {
-        match find_leaping(self, Assignment::of(LiteralSet::of(literals))) {
+        match find_leaping(self, Assignment::of(LiteralSet::from(literals))) {
             Some(found) => Some(found.setting()),
             None => None,
         }

@@ -15,17 +15,10 @@ const MOST_RULES: usize = 4_096;
 
 const LONGEST_TEXT: usize = 60_000;
 
-#[derive(Drop)]
-pub enum Answer {
-    // the literals of the least setting at the array's front, and how many they are
-    Satisfiable([i8; 32], usize),
-    Unsatisfiable,
-    Refused(SheetFault),
-}
-
+// What a clause text comes to: the literals of its least setting, none where it allows none, or the refusal; and whether its rules read back.
 #[derive(Drop)]
 pub struct Solved {
-    pub answer: Answer,
+    pub least: Result<Option<Vec<i8>>, SheetFault>,
     pub reads_back: bool,
 }
 
@@ -45,27 +38,22 @@ fn least(rules: &[LiteralSet], vars: usize, out: &mut [i8]) -> Result<(), SheetF
     sheet.least(out)
 }
 
-fn answer_of(rules: &[LiteralSet], vars: usize) -> Answer {
-    let mut literals = [0i8; 32];
-    match least(rules, vars, &mut literals) {
-        Ok(()) => Answer::Satisfiable(literals, contacts_of(vars)),
-        Err(SheetFault::NoneAllowed) => Answer::Unsatisfiable,
-        Err(fault) => Answer::Refused(fault),
+fn least_of(
+    heap: Global,
+    rules: &[LiteralSet],
+    vars: usize,
+) -> Result<Result<Option<Vec<i8>>, SheetFault>, AllocError> {
+    let mut literals = vec![in heap; 0i8; contacts_of(vars)]?;
+    match least(rules, vars, literals.as_mut_slice()) {
+        Ok(()) => Ok(Ok(Some(literals))),
+        Err(SheetFault::NoneAllowed) => Ok(Ok(None)),
+        Err(fault) => Ok(Err(fault)),
     }
-}
-
-fn are_same(rules: &[LiteralSet], others: &[LiteralSet]) -> bool {
-    for (rule, other) in rules.iter().zip(others.iter()) {
-        if rule.closed != other.closed || rule.opened != other.opened {
-            return false;
-        }
-    }
-    rules.len() == others.len()
 }
 
 fn holds_again(text: &[u8], rules: &[LiteralSet], vars: usize, store: &mut [LiteralSet]) -> bool {
     match load_all(text, store) {
-        Ok(size) => size.vars == vars && size.count == rules.len() && are_same(rules, store),
+        Ok(size) => size.vars == vars && size.count == rules.len() && *rules == *store,
         Err(_) => false,
     }
 }
@@ -88,12 +76,12 @@ pub fn solve(heap: Global, text: &[u8]) -> Result<Solved, AllocError> {
             let count = size.count.min(store.len());
             let rules = &store.as_slice()[0..count];
             Ok(Solved {
-                answer: answer_of(rules, size.vars),
+                least: least_of(heap, rules, size.vars)?,
                 reads_back: read_back(heap, rules, size.vars)?,
             })
         }
         Err(fault) => Ok(Solved {
-            answer: Answer::Refused(fault),
+            least: Err(fault),
             reads_back: false,
         }),
     }

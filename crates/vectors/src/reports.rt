@@ -1,8 +1,9 @@
 // Prints a line for each file.
-use crate::clauses_solved::{Answer, Solved, solve};
+use crate::clauses_solved::{Solved, solve};
 use aiger::Gate;
 use aiger_load::load;
-use faults::SheetFault;
+use faults::{Refusal, SheetFault};
+use literals::Spaced;
 use std::alloc::{AllocError, Global};
 use std::{fs, io};
 
@@ -10,32 +11,21 @@ use std::{fs, io};
 const MOST_GATES: usize = 2_048;
 
 fn print_refusal(rt: &impl Print, fault: SheetFault) -> io::Result<()> {
-    let refusal = fault.refusal();
-    let number = refusal.number;
-    let place = refusal.place;
-    print!(rt; " refused {number} {place}")
-}
-
-fn print_literals(rt: &impl Print, literals: &[i8]) -> io::Result<()> {
-    for literal in literals {
-        print!(rt; " {literal}")?;
-    }
-    Ok(())
-}
-
-fn print_answer(rt: &impl Print, answer: &Answer) -> io::Result<()> {
-    match answer {
-        Answer::Satisfiable(literals, n) => {
-            print!(rt; " satisfiable")?;
-            print_literals(rt, &literals[0..(*n).min(32)])
-        }
-        Answer::Unsatisfiable => print!(rt; " unsatisfiable"),
-        Answer::Refused(fault) => print_refusal(rt, *fault),
-    }
+    let refusal = Refusal::from(fault).brief();
+    print!(rt; " {refusal}")
 }
 
 fn print_solved(rt: &impl Print, solved: &Solved) -> io::Result<()> {
-    print_answer(rt, &solved.answer)?;
+    match &solved.least {
+        Ok(Some(literals)) => {
+            let literals = Spaced {
+                literals: literals.as_slice(),
+            };
+            print!(rt; " satisfiable{literals}")?
+        }
+        Ok(None) => print!(rt; " unsatisfiable")?,
+        Err(fault) => print_refusal(rt, *fault)?,
+    }
     if solved.reads_back {
         print!(rt; ", same")?;
     }
@@ -45,16 +35,10 @@ fn print_solved(rt: &impl Print, solved: &Solved) -> io::Result<()> {
 // The text without the lines that begin with one of those bytes.
 fn without_lines(heap: Global, text: &[u8], marks: &[u8]) -> Result<Vec<u8>, AllocError> {
     let mut rest = Vec::new(heap);
-    let mut begins = true;
-    let mut skips = false;
-    for byte in text {
-        if begins {
-            skips = marks.contains(byte);
+    for line in text.split_inclusive(|byte| *byte == b'\n') {
+        if !line.first().is_some_and(|mark| marks.contains(mark)) {
+            rest.extend_from_slice(line)?;
         }
-        if !skips {
-            rest.push(*byte)?;
-        }
-        begins = *byte == b'\n';
     }
     Ok(rest)
 }
@@ -63,7 +47,7 @@ fn without_lines(heap: Global, text: &[u8], marks: &[u8]) -> Result<Vec<u8>, All
 fn print_clauses(rt: &HostRuntime, text: &[u8]) -> anyhow::Result<()> {
     let solved = solve(rt.alloc(), text)?;
     print_solved(rt, &solved)?;
-    if let Answer::Refused(_) = solved.answer {
+    if solved.least.is_err() {
         let rest = without_lines(rt.alloc(), text, b"c")?;
         if rest.len() < text.len() {
             print!(rt; ", without comments")?;

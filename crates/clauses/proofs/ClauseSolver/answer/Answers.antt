@@ -14,7 +14,7 @@ returns-in-Some c =
     record {
       answer = subst (λ x. Answers (clause_meaning s) ls (Some x)) (sym c.setting.ensures.setting)
           (answered_some s c.requires.ordered ls c.requires.named found
-          (subst (λ a. Answer (clause_variables s) (clause_good s) a (Some found)) (c.of-2.ensures.same ∙ ap from_set c.of.ensures.collected) c.in-Some.ensures.answer));
+          (subst (λ a. Answer (clause_variables s) (clause_good s) a (Some found)) (c.of.ensures.same ∙ ap from_set c.from.ensures) c.in-Some.ensures.answer));
     }
 
 pub returns-in-None : goal.returns-in-None
@@ -23,5 +23,5 @@ returns-in-None c =
     let ls = c.args.literals.now in
     record {
       answer = answered_none s c.requires.ordered ls c.requires.named
-          (subst (λ a. Answer (clause_variables s) (clause_good s) a None) (c.of-2.ensures.same ∙ ap from_set c.of.ensures.collected) c.in-None.ensures.answer);
+          (subst (λ a. Answer (clause_variables s) (clause_good s) a None) (c.of.ensures.same ∙ ap from_set c.from.ensures) c.in-None.ensures.answer);
     }
