@@ -15,6 +15,10 @@ use literals::LiteralSet;
 use sheets::Sheet;
 use witnesses::WitnessCache;
 
+mod shown;
+
+pub use shown::LeastLines;
+
 // Writes the literals of the earliest setting of n contacts that some values of the other variables meet every rule with.
 fn least_of_rules(
     rules: &[LiteralSet],
