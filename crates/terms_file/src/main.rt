@@ -5,12 +5,13 @@ use anyhow::anyhow;
 use clauses::ClauseSolver;
 use clauses::counts::VariableCounts;
 use dimacs_load::load;
-use faults::SheetFault;
-use literals::LiteralSet;
+use faults::{Refusal, SheetFault};
+use literals::{LiteralSet, Spaced};
 use settings::Term;
 use sheets::Sheet;
+use std::alloc::Global;
 use std::fmt::Write;
-use std::{env, fs, io};
+use std::{env, fs};
 use terms::terms;
 use witnesses::WitnessCache;
 
@@ -40,6 +41,20 @@ fn terms_of_rules(
     terms(&mut make_sheet, &mut break_sheet, out)
 }
 
+// Loads a text into a store for its rules.
+fn load_rules<'a>(
+    text: &[u8],
+    n: usize,
+    store: &'a mut [LiteralSet],
+) -> Result<Rules<'a>, SheetFault> {
+    let size = load(text, n, store)?;
+    let count = size.count;
+    Ok(Rules {
+        records: &store[0..count],
+        variables: size.vars,
+    })
+}
+
 // Loads both texts, and writes the terms at the buffer's front.
 fn terms_of_texts(
     n: usize,
@@ -49,41 +64,32 @@ fn terms_of_texts(
     break_store: &mut [LiteralSet],
     out: &mut [Term],
 ) -> Result<usize, SheetFault> {
-    let make_size = load(make_text, n, make_store)?;
-    let break_size = load(break_text, n, break_store)?;
-    let make_count = make_size.count;
-    let break_count = break_size.count;
-    let make = Rules {
-        records: &make_store[0..make_count],
-        variables: make_size.vars,
-    };
-    let brk = Rules {
-        records: &break_store[0..break_count],
-        variables: break_size.vars,
-    };
+    let make = load_rules(make_text, n, make_store)?;
+    let brk = load_rules(break_text, n, break_store)?;
     terms_of_rules(n, make, brk, out)
 }
 
-fn print_refusal(rt: &impl Print, fault: SheetFault) -> io::Result<()> {
-    let refusal = fault.refusal();
-    let number = refusal.number;
-    let place = refusal.place;
-    println!(rt; "refused {number} {place}")
-}
-
-// The whole answer goes out in one write, since the program is there to be timed.
-fn print_terms(rt: &(impl Print + Alloc), n: usize, terms: &[Term]) -> anyhow::Result<()> {
-    let count = terms.len();
-    let mut listed = String::new(rt.alloc());
-    for term in terms {
-        write!(listed, "\nterm")?;
-        let literals = term.literals(n);
-        for literal in literals.as_slice() {
-            write!(listed, " {literal}")?;
+// What the program prints: the terms, or the refusal.
+fn shown(heap: Global, n: usize, answer: Result<&[Term], SheetFault>) -> anyhow::Result<String> {
+    let mut out = String::new(heap);
+    match answer {
+        Ok(terms) => {
+            let count = terms.len();
+            write!(out, "terms {count}")?;
+            for term in terms {
+                let literals = term.literals(n);
+                let spaced = Spaced {
+                    literals: literals.as_slice(),
+                };
+                write!(out, "\nterm{spaced}")?;
+            }
+        }
+        Err(fault) => {
+            let refusal = Refusal::from(fault).brief();
+            write!(out, "{refusal}")?;
         }
     }
-    println!(rt; "terms {count}{listed}")?;
-    Ok(())
+    Ok(out)
 }
 
 fn main(rt: HostRuntime) -> anyhow::Result<()> {
@@ -104,16 +110,16 @@ fn main(rt: HostRuntime) -> anyhow::Result<()> {
         closed: 0,
         opened: 0,
     }; 64];
-    match terms_of_texts(
+    let answer = terms_of_texts(
         n,
         make_text.as_slice(),
         break_text.as_slice(),
         make_store.as_mut_slice(),
         break_store.as_mut_slice(),
         &mut out,
-    ) {
-        Ok(count) => print_terms(&rt, n, &out[0..count.min(64)])?,
-        Err(fault) => print_refusal(&rt, fault)?,
-    }
+    );
+    // The whole answer goes out in one write, since the program is there to be timed.
+    let shown = shown(rt.alloc(), n, answer.map(|count| &out[0..count.min(64)]))?;
+    println!(rt; "{shown}")?;
     Ok(())
 }
