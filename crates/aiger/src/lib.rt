@@ -43,13 +43,6 @@ impl<'a> Gates<'a> {
         self.inputs
     }
 
-    // The number of gates.
-    pub fn count(&self) -> u16
-        ensures value { result ≡ self.now.count }
-    {
-        self.count
-    }
-
     // The literal that is the output.
     pub fn output(&self) -> u16
         ensures value { result ≡ self.now.output }

@@ -33,11 +33,4 @@ impl<'a> Rules<'a> {
     {
         self.vars
     }
-
-    // The number of rules.
-    pub fn count(&self) -> u16
-        ensures value { result ≡ self.now.count }
-    {
-        self.count
-    }
 }
