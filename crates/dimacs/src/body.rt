@@ -18,13 +18,10 @@ fn set_line(words: &mut Words, vars: u16) -> Result<LiteralSet, TextFault>
     ensures reads { set_line vars (ahead words.old) ≡ leaving result (ahead words.new) }
 {
     let mut rule = LiteralSet::empty();
-    loop {
-        let literal = literal(words, vars)?;
-        if literal == 0 {
-            return Ok(rule);
-        }
+    while let Some(literal) = literal(words, vars)? {
         rule = rule.with(literal);
     }
+    Ok(rule)
 }
 
 impl<'a> Rules<'a> {
