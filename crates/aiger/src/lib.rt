@@ -16,7 +16,7 @@ pub struct Gate {
     pub right: u16,
 }
 
-// A text of which nothing is read yet.
+// A text of which nothing is read yet. Gate texts have a type of their own for it, so that its heading gives the reader of gates.
 #[derive(Drop)]
 pub struct Opening<'a> {
     words: Words<'a>,

@@ -10,7 +10,7 @@ mod literal;
 
 use texts::Words;
 
-// A text of which nothing is read yet.
+// A text of which nothing is read yet. Clause texts have a type of their own for it, so that its heading gives the reader of rules.
 #[derive(Drop)]
 pub struct Opening<'a> {
     words: Words<'a>,
