@@ -1,3 +1,4 @@
 pub mod Inputs
 pub mod Refusals
 pub mod Grammars
+pub mod Literals

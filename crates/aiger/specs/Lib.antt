@@ -1,3 +1,4 @@
 pub mod Aag
 pub mod Reader
+pub mod Counts
 pub mod Grammar

@@ -16,7 +16,7 @@ pub struct Gate {
     pub right: u16,
 }
 
-// A text of which nothing is read yet.
+// A text of which nothing is read yet. Gate texts have a type of their own for it, so that its heading gives the reader of gates.
 #[derive(Drop)]
 pub struct Opening<'a> {
     words: Words<'a>,
@@ -41,13 +41,6 @@ impl<'a> Gates<'a> {
         ensures value { result ≡ self.now.inputs }
     {
         self.inputs
-    }
-
-    // The number of gates.
-    pub fn count(&self) -> u16
-        ensures value { result ≡ self.now.count }
-    {
-        self.count
     }
 
     // The literal that is the output.

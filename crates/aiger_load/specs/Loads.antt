@@ -1,5 +1,5 @@
 -- What loading a gate text answers, and what the store holds then.
-use Rattle.std.specs.Prelude.{ℕ, ◌≤◌, cond, List, length, Ok, Err, Result, ◌==◌, nat_le}
+use Rattle.std.specs.Prelude.{ℕ, cond, List, length, Ok, Err, Result, ◌==◌, nat_le}
 use Rattle.faults.specs.declared.TextFault.{TextFault}
 use Rattle.faults.specs.declared.StoreFault.{StoreFault}
 use Rattle.faults.specs.declared.StoreFault.TheVariants.{Text, Short}
@@ -30,15 +30,7 @@ abbrev pub store_after : Result Network SheetFault → Result Aag TextFault → 
 store_after (Ok z) r s = laid (gates r) s
 store_after (Err e) r s = s
 
--- of the first pass: what the text says besides its gates
-abbrev pub outlined : Result Aag TextFault → Result Network TextFault
-outlined r = and_then r (λ c. Ok (network_of c))
-
+-- what the first pass answers
 abbrev pub measured : Result Aag TextFault → Result Network StoreFault
 measured (Ok c) = Ok (network_of c)
 measured (Err e) = Err (Text e)
-
--- the text was read, and there is a record for each gate
-abbrev pub Fits : Result Aag TextFault → ℕ → Type 0
-Fits (Ok c) n = length c.gates ≤ n
-Fits (Err e) n = ⊥

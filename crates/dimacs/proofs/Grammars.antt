@@ -1,7 +1,7 @@
 -- A text reads as what its lines spell, and as nothing else.
-use Rattle.std.proofs.Common.{◌≡◌, ℕ, zero, suc, ◌+◌, ◌^◌, ◌<◌, ◌≤◌, Bool, true, false, cond, eqb, List, [], ◌∷◌, map, length, get_or, ℤ, Ok, codes, Result, sym, refl, ap, ◌∙◌, subst, arith}
+use Rattle.std.proofs.Common.{◌≡◌, ℕ, zero, suc, ◌+◌, ◌^◌, ◌<◌, ◌≤◌, Bool, true, false, cond, eqb, List, [], ◌∷◌, map, length, get_or, ℤ, Some, None, Ok, codes, Option, Result, sym, refl, ap, ◌∙◌, subst, arith}
 use Rattle.std.specs.List.{AllByRecursion as All}
-use Rattle.std.proofs.lemmas.Bool.{cond-true, cond-false, eq-eqb, eqb-true}
+use Rattle.std.proofs.lemmas.Bool.{cond-true, eq-eqb, eqb-true}
 use Rattle.faults.specs.declared.TextFault.{TextFault}
 use Rattle.texts.specs.Lexemes.{Lexeme, word, line_end, end, lexemes_from}
 use Rattle.texts.specs.Lines.{Words, Lines, Ends}
@@ -9,31 +9,31 @@ use Rattle.texts.specs.Due.{length_due, leaving, and_then, one, number, line_end
 use Rattle.texts.proofs.Spellings.{lines_join, lines_split, given, ended_is, ended_ok, short_is, short_ok}
 use Rattle.texts.proofs.Dues.{first_then, judged, number_is, exactly_is, line_end_is, number_ok}
 use Rattle.dimacs.specs.Literals.{literal}
-use Rattle.dimacs.specs.Cnf.{comment, opening, Heading, heading, is_zero, literals, rule, body, Cnf, cnf, read_cnf}
+use Rattle.dimacs.specs.Cnf.{comment, opening, Heading, heading, then_literals, literals, rule, body, Cnf, cnf, read_cnf}
 use Rattle.dimacs.specs.Grammar.{Comment, heading_words, rule_words, cnf_lines, Spelled, ReadsJust}
 use Rattle.dimacs.proofs.Refusals.{refused_at}
 use Rattle.dimacs.proofs.Lines.{onward}
-use Rattle.dimacs.proofs.Literals.{Named, literal_is, named_from, zero_word, literal_ok, zero_ok, named_some}
+use Rattle.dimacs.proofs.Literals.{Named, literal_is, literal_ok, zero_ok}
 
 module _ (V : ℕ) (v : V < 2 ^ 64) where
   abbrev LineRead : List Lexeme → List ℤ × List Lexeme → Type 0
   LineRead ts a = All (Named V) a.0 × Words (rule_words a.0) ts a.1
 
-  line_by : (t : Lexeme) (ts : List Lexeme) (l : ℤ) (z : Bool) (a : List ℤ × List Lexeme) → ((b : List ℤ × List Lexeme) → literals V ts ≡ Ok b → LineRead ts b) → literal V t ≡ Ok l → is_zero l ≡ z → cond z (Ok ([], ts)) (and_then (literals V ts) (λ b. Ok (l ∷ b.0, b.1))) ≡ Ok a → LineRead (t ∷ ts) a
-  line_by t ts l true a ih h z e =
-      let q = literal_is V t l v h in
-      given (LineRead (t ∷ ts)) ([], ts) a e (tt, (q.0, ts, ap (λ x. x ∷ ts) (q.1 ∙ ap (λ w. word w q.0) (zero_word l z)), refl))
-  line_by t ts l false a ih h z e =
-      let q = literal_is V t l v h in
+  line_by : (t : Lexeme) (ts : List Lexeme) (o : Option ℤ) (a : List ℤ × List Lexeme) → ((b : List ℤ × List Lexeme) → literals V ts ≡ Ok b → LineRead ts b) → literal V t ≡ Ok o → then_literals o ts (literals V ts) ≡ Ok a → LineRead (t ∷ ts) a
+  line_by t ts None a ih h e =
+      let q = literal_is V t None v h in
+      given (LineRead (t ∷ ts)) ([], ts) a e (tt, (q.0, ts, ap (λ x. x ∷ ts) q.1, refl))
+  line_by t ts (Some l) a ih h e =
+      let q = literal_is V t (Some l) v h in
       let r = first_then (literals V ts) (λ b. Ok (l ∷ b.0, b.1)) a e in
       let more = ih r.0 r.1 in
-      given (LineRead (t ∷ ts)) (l ∷ r.0.0, r.0.1) a r.2 ((named_from V l q.2 z, more.0), (q.0, ts, ap (λ x. x ∷ ts) q.1, more.1))
+      given (LineRead (t ∷ ts)) (l ∷ r.0.0, r.0.1) a r.2 ((q.2, more.0), (q.0, ts, ap (λ x. x ∷ ts) q.1, more.1))
 
   line_is : (ts : List Lexeme) (a : List ℤ × List Lexeme) → literals V ts ≡ Ok a → LineRead ts a
   line_is [] a e = absurd (let z : ◌≡◌ {A = ℕ} 0 1 = cc in omega arith)
   line_is (t ∷ ts) a e =
       let q = first_then (literal V t) _ a e in
-      line_by t ts q.0 (is_zero q.0) a (line_is ts) q.1 refl q.2
+      line_by t ts q.0 a (line_is ts) q.1 q.2
 
   abbrev RuleRead : List Lexeme → (List ℤ × ℕ) × List Lexeme → Type 0
   RuleRead ts a = All (Named V) a.0.0 × (q : ℕ) × Words (rule_words a.0.0) ts (line_end q ∷ a.1) × (q + 1 ≡ a.0.1)
@@ -160,7 +160,6 @@ module _ (V : ℕ) (v : V ≤ 64) where
   line_ok (l ∷ ls) ts rest h w =
       ap (literals V) w.2
       ∙ ap (onward V w.1) (literal_ok V l w.0 v h.0)
-      ∙ cond-false (is_zero l) _ _ (named_some V l h.0)
       ∙ ap (λ r. and_then r (λ a. Ok (l ∷ a.0, a.1))) (line_ok ls w.1 rest h.1 w.3)
 
   rule_ok : (ls : List ℤ) (q : ℕ) (ts us : List Lexeme) → All (Named V) ls → Words (rule_words ls) ts (line_end q ∷ us) → rule V ts ≡ Ok ((ls, q + 1), us)

@@ -1,49 +1,10 @@
 -- Reading a rule's line, literal by literal.
-use Rattle.std.proofs.Common.{◌≡◌, ℕ, false, cond, List, [], ◌∷◌, ℤ, pos, negsuc, Ok, Err, fold, Result, refl, ap, ◌∙◌, arith, w8, SFits, of_z}
-use Rattle.std.proofs.lemmas.Bool.{cond-false, ne_eqb}
+use Rattle.std.proofs.Common.{ℕ, List, ℤ, Option, Result}
 use Rattle.faults.specs.declared.TextFault.{TextFault}
-use Rattle.literals.specs.declared.LiteralSet.{LiteralSet}
-use Rattle.literals.specs.Literals.{with_literal}
 use Rattle.texts.specs.Lexemes.{Lexeme}
-use Rattle.texts.specs.Due.{leaving, and_then, one}
-use Rattle.texts.proofs.Dues.{judged}
-use Rattle.dimacs.specs.Literals.{UpTo, greatest, literal}
-use Rattle.dimacs.specs.Cnf.{is_zero, literals}
-use Rattle.dimacs.specs.Reader.{set_line_from}
-
-one_err : {A : Type 0} (ts : List Lexeme) (f : TextFault) (r : Result A TextFault) → leaving r ts ≡ Err f → r ≡ Err f
-one_err ts f (Ok x) e = absurd (let z : ◌≡◌ {A = ℕ} 0 1 = cc in omega arith)
-one_err ts f (Err x) e = cc
-
--- the literals read, put into a set
-abbrev gathered : LiteralSet → Result (List ℤ × List Lexeme) TextFault → Result (LiteralSet × List Lexeme) TextFault
-gathered s r = and_then r (λ a. Ok (fold with_literal s a.0, a.1))
+use Rattle.texts.specs.Due.{and_then}
+use Rattle.dimacs.specs.Cnf.{then_literals, literals}
 
 -- what follows the judgement of one lexeme of a rule's line
-abbrev pub onward : ℕ → List Lexeme → Result ℤ TextFault → Result (List ℤ × List Lexeme) TextFault
-onward V ts r = and_then r (λ l. cond (is_zero l) (Ok ([], ts)) (and_then (literals V ts) (λ a. Ok (l ∷ a.0, a.1))))
-
-gathered_more : (s : LiteralSet) (l : ℤ) (r : Result (List ℤ × List Lexeme) TextFault) → gathered s (and_then r (λ a. Ok (l ∷ a.0, a.1))) ≡ gathered (with_literal s l) r
-gathered_more s l (Ok x) = refl
-gathered_more s l (Err x) = refl
-
-module _ (V : ℕ) where
-  pub line_step : (s : LiteralSet) (ts rest : List Lexeme) (l : ℤ) → one (literal V) ts ≡ Ok (l, rest) → is_zero l ≡ false → set_line_from V s ts ≡ set_line_from V (with_literal s l) rest
-  line_step s ts rest l e z =
-      let q = judged (literal V) ts (l, rest) e in
-      ap (set_line_from V s) q.1
-      ∙ ap (gathered s) (ap (onward V rest) q.2 ∙ cond-false (is_zero l) _ _ z)
-      ∙ gathered_more s l (literals V rest)
-
-  pub line_fault : (s : LiteralSet) (ts : List Lexeme) (f : TextFault) → one (literal V) ts ≡ Err f → set_line_from V s ts ≡ Err f
-  line_fault s [] f e = cc
-  line_fault s (t ∷ ts) f e = ap (gathered s) (ap (onward V ts) (one_err ts f (literal V t) e))
-
--- a literal fits 8 bits
-pub up_to_fits : (V : ℕ) (l : ℤ) → UpTo (greatest V) l → SFits w8 l
-up_to_fits V (pos k) b = record { sfits = omega arith }
-up_to_fits V (negsuc k) b = record { sfits = omega arith }
-
-pub not_zero : (l : ℤ) → (of_z w8 l ≡ 0 → ⊥) → is_zero l ≡ false
-not_zero (pos k) h = ne_eqb k 0 h
-not_zero (negsuc k) h = refl
+abbrev pub onward : ℕ → List Lexeme → Result (Option ℤ) TextFault → Result (List ℤ × List Lexeme) TextFault
+onward V ts r = and_then r (λ o. then_literals o ts (literals V ts))

@@ -1,5 +1,5 @@
 -- The words that are literals.
-use Rattle.std.proofs.Common.{◌≡◌, ℕ, zero, suc, ◌^◌, ◌<◌, ◌≤◌, Bool, true, false, cond, eqb, List, [], ◌∷◌, get_or, drop, ℤ, pos, negsuc, Ok, codes, decimal, Result, sym, refl, ap, ◌∙◌, subst, arith}
+use Rattle.std.proofs.Common.{◌≡◌, ℕ, zero, suc, ◌^◌, ◌<◌, ◌≤◌, Bool, true, false, cond, eqb, List, [], ◌∷◌, get_or, drop, ℤ, pos, negsuc, Some, None, Ok, codes, decimal, Option, Result, sym, refl, ap, ◌∙◌, subst, arith}
 use Rattle.std.specs.Fmt.{signed_decimal}
 use Rattle.std.proofs.lemmas.Fmt.{first_decimal, decimal_digit}
 use Rattle.std.proofs.lemmas.Bool.{cond-false, ne_eqb, eqb-true, ltb-true, lt-ltb, both_ways}
@@ -8,8 +8,7 @@ use Rattle.literals.specs.Literals.{names}
 use Rattle.texts.specs.Lexemes.{Lexeme, word, line_end, end}
 use Rattle.texts.specs.Due.{and_then, limited}
 use Rattle.texts.proofs.Dues.{from_ok, first_then, limited_is, one_way, number_ok}
-use Rattle.dimacs.specs.Literals.{UpTo, greatest, minus, negated, literal}
-use Rattle.dimacs.specs.Cnf.{is_zero}
+use Rattle.dimacs.specs.Literals.{greatest, plain, minus, negated, literal}
 
 -- a literal names one of V variables
 abbrev pub Named : ℕ → ℤ → Type 0
@@ -19,65 +18,66 @@ minus_front : (w : List ℕ) → get_or w 0 0 ≡ 45 → w ≡ 45 ∷ drop 1 w
 minus_front [] h = absurd (omega arith)
 minus_front (b ∷ w) h = ap (λ x. x ∷ w) h
 
--- what a word must be that is a literal
-abbrev Spells : ℕ → List ℕ → ℤ → Type 0
-Spells V w l = (w ≡ signed_decimal l) × UpTo V l
+-- the word that writes a literal, or the closing 0
+abbrev pub spelled : Option ℤ → List ℕ
+spelled None = codes "0"
+spelled (Some l) = signed_decimal l
 
-negative : (V : ℕ) (w : List ℕ) (p n : ℕ) (l : ℤ) → V < 2 ^ 64 → get_or w 0 0 ≡ 45 → limited 0 (greatest V) (drop 1 w) p ≡ Ok n → minus p n ≡ Ok l → Spells V w l
-negative V w p zero l v h e m = absurd (let z : ◌≡◌ {A = ℕ} 0 1 = cc in omega arith)
-negative V w p (suc k) l v h e m =
+-- what was read is a literal of one of V variables, or the closing 0
+abbrev pub Known : ℕ → Option ℤ → Type 0
+Known V None = Unit {0}
+Known V (Some l) = Named V l
+
+abbrev Spells : ℕ → List ℕ → Option ℤ → Type 0
+Spells V w o = (w ≡ spelled o) × Known V o
+
+negative : (V : ℕ) (w : List ℕ) (p n : ℕ) (o : Option ℤ) → V < 2 ^ 64 → get_or w 0 0 ≡ 45 → limited 0 (greatest V) (drop 1 w) p ≡ Ok n → minus p n ≡ Ok o → Spells V w o
+negative V w p zero o v h e m = absurd (let z : ◌≡◌ {A = ℕ} 0 1 = cc in omega arith)
+negative V w p (suc k) o v h e m =
     let q = limited_is 0 (greatest V) (drop 1 w) p (suc k) e in
     let same = q.1 in
-    let is : negsuc k ≡ l = ap (from_ok l) m in
+    let is : Some (negsuc k) ≡ o = ap (from_ok o) m in
     let lt : k < V = omega (arith, q.3) in
-    (minus_front w h ∙ ap (λ ds. 45 ∷ ds) (sym (one_way (drop 1 w) q.0 (omega (arith, q.3))) ∙ ap decimal same) ∙ ap signed_decimal is, subst (UpTo V) is lt)
+    (minus_front w h ∙ ap (λ ds. 45 ∷ ds) (sym (one_way (drop 1 w) q.0 (omega (arith, q.3))) ∙ ap decimal same) ∙ ap spelled is, subst (Known V) is (lt-ltb k V lt))
 
-positive : (V : ℕ) (w : List ℕ) (p n : ℕ) (l : ℤ) → V < 2 ^ 64 → limited 0 (greatest V) w p ≡ Ok n → ◌≡◌ {A = Result ℤ TextFault} (Ok (pos n)) (Ok l) → Spells V w l
-positive V w p n l v e m =
+-- a number is written as what it stands for
+plain_is : (V n : ℕ) → n ≤ V → (decimal n ≡ spelled (plain n)) × Known V (plain n)
+plain_is V zero h = (decimal_digit 0 (omega arith), tt)
+plain_is V (suc k) h = (refl, lt-ltb k V (omega arith))
+
+positive : (V : ℕ) (w : List ℕ) (p n : ℕ) (o : Option ℤ) → V < 2 ^ 64 → limited 0 (greatest V) w p ≡ Ok n → ◌≡◌ {A = Result (Option ℤ) TextFault} (Ok (plain n)) (Ok o) → Spells V w o
+positive V w p n o v e m =
     let q = limited_is 0 (greatest V) w p n e in
-    let same = q.1 in
-    let is : pos n ≡ l = ap (from_ok l) m in
-    (sym (one_way w q.0 (omega (arith, q.3))) ∙ ap decimal same ∙ ap signed_decimal is, subst (UpTo V) is (let le = q.3 in omega arith))
+    let is : plain n ≡ o = ap (from_ok o) m in
+    let writes : w ≡ decimal n = sym (one_way w q.0 (omega (arith, q.3))) ∙ ap decimal q.1 in
+    let plainly = plain_is V n (omega (arith, q.3)) in
+    (writes ∙ plainly.0 ∙ ap spelled is, subst (Known V) is plainly.1)
 
-word_is : (V : ℕ) (w : List ℕ) (p : ℕ) (l : ℤ) (b : Bool) → V < 2 ^ 64 → eqb (get_or w 0 0) 45 ≡ b → cond b (negated V (drop 1 w) p) (and_then (limited 0 (greatest V) w p) (λ n. Ok (pos n))) ≡ Ok l → Spells V w l
-word_is V w p l true v h e =
-    let q = first_then (limited 0 (greatest V) (drop 1 w) p) (minus p) l e in
-    negative V w p q.0 l v (eqb-true _ 45 h) q.1 q.2
-word_is V w p l false v h e =
-    let q = first_then (limited 0 (greatest V) w p) (λ n. Ok (pos n)) l e in
-    positive V w p q.0 l v q.1 q.2
+word_is : (V : ℕ) (w : List ℕ) (p : ℕ) (o : Option ℤ) (b : Bool) → V < 2 ^ 64 → eqb (get_or w 0 0) 45 ≡ b → cond b (negated V (drop 1 w) p) (and_then (limited 0 (greatest V) w p) (λ n. Ok (plain n))) ≡ Ok o → Spells V w o
+word_is V w p o true v h e =
+    let q = first_then (limited 0 (greatest V) (drop 1 w) p) (minus p) o e in
+    negative V w p q.0 o v (eqb-true _ 45 h) q.1 q.2
+word_is V w p o false v h e =
+    let q = first_then (limited 0 (greatest V) w p) (λ n. Ok (plain n)) o e in
+    positive V w p q.0 o v q.1 q.2
 
--- a lexeme that gave a literal is the word that writes it
-pub literal_is : (V : ℕ) (t : Lexeme) (l : ℤ) → V < 2 ^ 64 → literal V t ≡ Ok l → (p : ℕ) × (t ≡ word (signed_decimal l) p) × UpTo V l
-literal_is V (word w p) l v e = let q = word_is V w p l (eqb (get_or w 0 0) 45) v refl e in (p, ap (λ x. word x p) q.0, q.1)
-literal_is V (line_end p) l v e = absurd (let z : ◌≡◌ {A = ℕ} 0 1 = cc in omega arith)
-literal_is V (end p) l v e = absurd (let z : ◌≡◌ {A = ℕ} 0 1 = cc in omega arith)
-
-pub named_from : (V : ℕ) (l : ℤ) → UpTo V l → is_zero l ≡ false → Named V l
-named_from V (pos zero) h z = absurd (both_ways true z refl)
-named_from V (pos (suc k)) h z = lt-ltb k V (omega arith)
-named_from V (negsuc k) h z = lt-ltb k V h
-
-pub zero_word : (l : ℤ) → is_zero l ≡ true → signed_decimal l ≡ codes "0"
-zero_word (pos n) z = ap decimal (eqb-true n 0 z) ∙ decimal_digit 0 (omega arith)
-zero_word (negsuc n) z = absurd (both_ways false refl z)
+-- a lexeme that was read is the word that writes what was read
+pub literal_is : (V : ℕ) (t : Lexeme) (o : Option ℤ) → V < 2 ^ 64 → literal V t ≡ Ok o → (p : ℕ) × (t ≡ word (spelled o) p) × Known V o
+literal_is V (word w p) o v e = let q = word_is V w p o (eqb (get_or w 0 0) 45) v refl e in (p, ap (λ x. word x p) q.0, q.1)
+literal_is V (line_end p) o v e = absurd (let z : ◌≡◌ {A = ℕ} 0 1 = cc in omega arith)
+literal_is V (end p) o v e = absurd (let z : ◌≡◌ {A = ℕ} 0 1 = cc in omega arith)
 
 -- the word that writes a literal gives it
-pub literal_ok : (V : ℕ) (l : ℤ) (p : ℕ) → V ≤ 64 → Named V l → literal V (word (signed_decimal l) p) ≡ Ok l
+pub literal_ok : (V : ℕ) (l : ℤ) (p : ℕ) → V ≤ 64 → Named V l → literal V (word (signed_decimal l) p) ≡ Ok (Some l)
 literal_ok V (pos zero) p v h = absurd (both_ways false refl h)
 literal_ok V (pos (suc k)) p v h =
     let lt = ltb-true k V h in
     let big = first_decimal (suc k) (omega arith) (omega arith) in
     cond-false (eqb (get_or (decimal (suc k)) 0 0) 45) _ _ (ne_eqb _ 45 (λ e. omega arith))
-    ∙ ap (λ r. and_then r (λ n. Ok (pos n))) (number_ok 0 (greatest V) (suc k) p (omega arith) (omega arith) (omega arith))
+    ∙ ap (λ r. and_then r (λ n. Ok (plain n))) (number_ok 0 (greatest V) (suc k) p (omega arith) (omega arith) (omega arith))
 literal_ok V (negsuc k) p v h =
     let lt = ltb-true k V h in
     ap (λ r. and_then r (minus p)) (number_ok 0 (greatest V) (suc k) p (omega arith) (omega arith) (omega arith))
 
-pub zero_ok : (V p : ℕ) → literal V (word (codes "0") p) ≡ Ok (pos 0)
-zero_ok V p = ap (λ w. literal V (word w p)) (sym (decimal_digit 0 (omega arith))) ∙ cond-false (eqb (get_or (decimal 0) 0 0) 45) _ _ (ap (λ w. eqb (get_or w 0 0) 45) (decimal_digit 0 (omega arith))) ∙ ap (λ r. and_then r (λ n. Ok (pos n))) (number_ok 0 (greatest V) 0 p (omega arith) (omega arith) (omega arith))
-
-pub named_some : (V : ℕ) (l : ℤ) → Named V l → is_zero l ≡ false
-named_some V (pos zero) h = absurd (both_ways false refl h)
-named_some V (pos (suc k)) h = ne_eqb (suc k) 0 (λ e. omega arith)
-named_some V (negsuc k) h = refl
+pub zero_ok : (V p : ℕ) → literal V (word (codes "0") p) ≡ Ok None
+zero_ok V p = ap (λ w. literal V (word w p)) (sym (decimal_digit 0 (omega arith))) ∙ cond-false (eqb (get_or (decimal 0) 0 0) 45) _ _ (ap (λ w. eqb (get_or w 0 0) 45) (decimal_digit 0 (omega arith))) ∙ ap (λ r. and_then r (λ n. Ok (plain n))) (number_ok 0 (greatest V) 0 p (omega arith) (omega arith) (omega arith))

@@ -1,5 +1,5 @@
 -- The fault of a clause text stands at one of its words, line feeds or its end.
-use Rattle.std.proofs.Common.{◌≡◌, ℕ, zero, suc, ◌≤◌, Bool, true, false, cond, eqb, List, [], ◌∷◌, length, get_or, drop, ℤ, pos, negsuc, Ok, Err, codes, Result, sym, refl, ap, ◌∙◌, subst, inl, inr}
+use Rattle.std.proofs.Common.{◌≡◌, ℕ, zero, suc, ◌≤◌, Bool, true, false, cond, eqb, List, [], ◌∷◌, length, get_or, drop, ℤ, negsuc, Some, None, Ok, Err, codes, Option, Result, sym, refl, ap, ◌∙◌, subst, inl, inr}
 use Rattle.faults.specs.declared.TextFault.{TextFault}
 use Rattle.faults.specs.declared.TextFault.TheVariants.{Shape}
 use Rattle.texts.specs.Lexemes.{Lexeme, word, line_end, end, lexemes_from}
@@ -7,16 +7,16 @@ use Rattle.texts.specs.Due.{leaving, and_then, one, limited, number, line_end_du
 use Rattle.texts.specs.Places.{fault_place, Stands}
 use Rattle.texts.proofs.Places.{Closed, closed_text, Placed, FailsAt, placed_then, fails_then, fails_kept, placed_one, placed_behind, placed_kept, all_left, Judge, word_judge, limited_at, shape_at, never, at_then, number_judge, exactly_judge, line_end_judge, ended_fails}
 use Rattle.texts.proofs.Spellings.{short_ok}
-use Rattle.dimacs.specs.Literals.{greatest, minus, negated, literal}
-use Rattle.dimacs.specs.Cnf.{opening, heading, is_zero, literals, rule, body, Cnf, cnf, read_cnf}
+use Rattle.dimacs.specs.Literals.{greatest, plain, minus, negated, literal}
+use Rattle.dimacs.specs.Cnf.{opening, heading, then_literals, literals, rule, body, Cnf, cnf, read_cnf}
 
 minus_at : (p n : ℕ) (e : TextFault) → minus p n ≡ Err e → p ≡ fault_place e
 minus_at p zero e q = shape_at p e q
-minus_at p (suc k) e q = absurd (never e (negsuc k) (sym q))
+minus_at p (suc k) e q = absurd (never e (Some (negsuc k)) (sym q))
 
-word_at : (V : ℕ) (w : List ℕ) (p : ℕ) (b : Bool) (e : TextFault) → cond b (negated V (drop 1 w) p) (and_then (limited 0 (greatest V) w p) (λ n. Ok (pos n))) ≡ Err e → p ≡ fault_place e
+word_at : (V : ℕ) (w : List ℕ) (p : ℕ) (b : Bool) (e : TextFault) → cond b (negated V (drop 1 w) p) (and_then (limited 0 (greatest V) w p) (λ n. Ok (plain n))) ≡ Err e → p ≡ fault_place e
 word_at V w p true e q = at_then p (limited 0 (greatest V) (drop 1 w) p) (minus p) e (limited_at 0 (greatest V) (drop 1 w) p) (λ n. minus_at p n e) q
-word_at V w p false e q = at_then p (limited 0 (greatest V) w p) (λ n. Ok (pos n)) e (limited_at 0 (greatest V) w p) (λ n x. absurd (never e (pos n) (sym x))) q
+word_at V w p false e q = at_then p (limited 0 (greatest V) w p) (λ n. Ok (plain n)) e (limited_at 0 (greatest V) w p) (λ n x. absurd (never e (plain n) (sym x))) q
 
 literal_judge : (V : ℕ) → Judge (literal V)
 literal_judge V = word_judge (literal V) (λ w p e q. word_at V w p (eqb (get_or w 0 0) 45) e q) (λ p. refl) (λ p. refl)
@@ -36,18 +36,18 @@ opening_placed false (line_end p ∷ ts) h = inl refl
 opening_placed false (end p ∷ ts) h = inl refl
 
 module _ (V : ℕ) where
-  line_by : (t : Lexeme) (ts : List Lexeme) (l : ℤ) (z : Bool) → Closed ts → Placed ts (literals V ts) → Placed (t ∷ ts) (cond z (Ok ([], ts)) (and_then (literals V ts) (λ a. Ok (l ∷ a.0, a.1))))
-  line_by t ts l true h k = ((λ p s. inr s), h)
-  line_by t ts l false h k = placed_behind t ts _ (placed_kept ts (literals V ts) (λ ls. l ∷ ls) k)
+  line_by : (t : Lexeme) (ts : List Lexeme) (o : Option ℤ) → Closed ts → Placed ts (literals V ts) → Placed (t ∷ ts) (then_literals o ts (literals V ts))
+  line_by t ts None h k = ((λ p s. inr s), h)
+  line_by t ts (Some l) h k = placed_behind t ts _ (placed_kept ts (literals V ts) (λ ls. l ∷ ls) k)
 
   line_placed : (ts : List Lexeme) → Closed ts → Placed ts (literals V ts)
   line_placed [] h = absurd h
   line_placed (t ∷ ts) h = go t (literal V t) refl h (line_placed ts)
     where
-      go : (t : Lexeme) (r : Result ℤ TextFault) → literal V t ≡ r → Closed (t ∷ ts) → (Closed ts → Placed ts (literals V ts)) → Placed (t ∷ ts) (and_then r (λ l. cond (is_zero l) (Ok ([], ts)) (and_then (literals V ts) (λ a. Ok (l ∷ a.0, a.1)))))
-      go (word w p) (Ok l) e h k = line_by (word w p) ts l (is_zero l) h (k h)
-      go (line_end p) (Ok l) e h k = absurd (never (Shape p) l e)
-      go (end p) (Ok l) e h k = absurd (never (Shape p) l e)
+      go : (t : Lexeme) (r : Result (Option ℤ) TextFault) → literal V t ≡ r → Closed (t ∷ ts) → (Closed ts → Placed ts (literals V ts)) → Placed (t ∷ ts) (and_then r (λ o. then_literals o ts (literals V ts)))
+      go (word w p) (Ok o) e h k = line_by (word w p) ts o h (k h)
+      go (line_end p) (Ok o) e h k = absurd (never (Shape p) o e)
+      go (end p) (Ok o) e h k = absurd (never (Shape p) o e)
       go t (Err x) e h k = inl ((literal_judge V).at t x e)
 
   rule_placed : (ts : List Lexeme) → Closed ts → Placed ts (rule V ts)

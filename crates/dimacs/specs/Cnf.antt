@@ -1,5 +1,5 @@
 -- Clause texts: comment lines, a heading `p cnf V C`, and C lines of literals that each close with 0.
-use Rattle.std.specs.Prelude.{ℕ, zero, suc, Bool, true, false, cond, List, [], ◌∷◌, ℤ, pos, negsuc, Ok, Err, codes, Result, ◌==◌, slice_index}
+use Rattle.std.specs.Prelude.{ℕ, zero, suc, Bool, true, false, cond, List, [], ◌∷◌, ℤ, Some, None, Ok, Err, codes, Option, Result, ◌==◌, slice_index}
 use Rattle.faults.specs.declared.TextFault.{TextFault}
 use Rattle.faults.specs.declared.TextFault.TheVariants.{Shape}
 use Rattle.texts.specs.Lexemes.{Lexeme, word, line_end, end, lexemes_from}
@@ -33,15 +33,15 @@ heading ts =
     and_then (one line_end_due n.1) (λ f.
     Ok ((v.0, n.0, f.0), f.1))))))
 
-abbrev pub is_zero : ℤ → Bool
-is_zero (pos n) = n == 0
-is_zero (negsuc n) = false
+-- one literal and those that follow it, or the closing 0
+abbrev pub then_literals : Option ℤ → List Lexeme → Result (List ℤ × List Lexeme) TextFault → Result (List ℤ × List Lexeme) TextFault
+then_literals None ts r = Ok ([], ts)
+then_literals (Some l) ts r = and_then r (λ a. Ok (l ∷ a.0, a.1))
 
 -- the literals up to the closing 0
 abbrev pub literals : ℕ → List Lexeme → Result (List ℤ × List Lexeme) TextFault
 literals V [] = Err (Shape 0)
-literals V (t ∷ ts) =
-    and_then (literal V t) (λ l. cond (is_zero l) (Ok ([], ts)) (and_then (literals V ts) (λ a. Ok (l ∷ a.0, a.1))))
+literals V (t ∷ ts) = and_then (literal V t) (λ o. then_literals o ts (literals V ts))
 
 -- one rule's line, and the place behind it
 abbrev pub rule : ℕ → List Lexeme → Result ((List ℤ × ℕ) × List Lexeme) TextFault

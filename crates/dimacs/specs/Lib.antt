@@ -1,4 +1,5 @@
 pub mod Literals
 pub mod Cnf
 pub mod Reader
+pub mod Counts
 pub mod Grammar

@@ -1,6 +1,8 @@
 // The rules of a clause text.
 ghost use Rattle.std.specs.Prelude.{◌≡◌};
-ghost use Rattle.dimacs.specs.Reader.{set_line, rule_set, gave};
+ghost use Rattle.dimacs.specs.Reader.{set_line, rule_set, gave, sets_ahead};
+ghost use Rattle.dimacs.specs.Counts.{sets_as_many};
+ghost use Rattle.stores.specs.Stores.{nothing_behind};
 ghost use Rattle.texts.specs.Due.{leaving, ended};
 ghost use Rattle.texts.specs.Lexemes.{ahead};
 
@@ -8,6 +10,7 @@ use super::Rules;
 use crate::literal::literal;
 use faults::TextFault;
 use literals::LiteralSet;
+use stores::Records;
 use texts::Words;
 
 // The literals up to the closing 0.
@@ -15,13 +18,10 @@ fn set_line(words: &mut Words, vars: u16) -> Result<LiteralSet, TextFault>
     ensures reads { set_line vars (ahead words.old) ≡ leaving result (ahead words.new) }
 {
     let mut rule = LiteralSet::empty();
-    loop {
-        let literal = literal(words, vars)?;
-        if literal == 0 {
-            return Ok(rule);
-        }
+    while let Some(literal) = literal(words, vars)? {
         rule = rule.with(literal);
     }
+    Ok(rule)
 }
 
 impl<'a> Rules<'a> {
@@ -35,10 +35,29 @@ impl<'a> Rules<'a> {
         self.behind = self.words.line_end()?;
         Ok(rule)
     }
+}
 
-    // The end of the text, right behind the last line that was read.
-    pub fn finish(self) -> Result<(), TextFault>
+// The records of a clause text are its rules.
+impl<'a> Records for Rules<'a> {
+    type Record = LiteralSet;
+
+    ghost number = { λ r. r.count };
+
+    ghost reading = { sets_ahead };
+
+    ghost as_many = { λ n r. sets_as_many r.vars n r.behind (ahead r.words) };
+
+    fn count(&self) -> usize {
+        self.count as usize
+    }
+
+    fn next(&mut self) -> Result<LiteralSet, TextFault> {
+        self.rule()
+    }
+
+    fn finish(self) -> Result<(), TextFault>
         ensures reads { result ≡ ended self.entry.behind (ahead self.entry.words) }
+        ensures ends { sets_ahead 0 self.entry ≡ nothing_behind result }
     {
         let Rules { words, behind, .. } = self;
         words.finish(behind)

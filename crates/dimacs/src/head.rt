@@ -1,47 +1,43 @@
 // What stands before the rules of a clause text.
-ghost use Rattle.std.specs.Prelude.{◌≡◌, ◌≤◌, false, IfOk, ◌==◌, slice_index};
+ghost use Rattle.std.specs.Prelude.{◌≡◌, ◌≤◌, true, false, length, IfOk, OnOk};
 ghost use Rattle.dimacs.specs.Cnf.{opening, heading};
 ghost use Rattle.dimacs.specs.Reader.{headed};
-ghost use Rattle.texts.specs.Due.{leaving};
+ghost use Rattle.texts.specs.Due.{and_then, leaving};
 ghost use Rattle.texts.specs.Lexemes.{ahead, lexemes_from};
 
 use super::{Opening, Rules};
 use faults::TextFault;
 use texts::{Token, Words, exact};
 
-fn begins_comment(word: &[u8]) -> bool
-    ensures value { result ≡ (slice_index word.now 0 == 99) }
+// Passes over what is left of a comment line.
+fn skip_line(words: &mut Words) -> Result<(), TextFault>
+    ensures skips { opening true (ahead words.old) ≡ and_then result (λ _. opening false (ahead words.new)) }
+    ensures fewer { OnOk result (length (ahead words.new) ≤ length (ahead words.old)) }
 {
-    !word.is_empty() && word[0] == b'c'
-}
-
-// The word `p`, behind comment lines.
-fn opening(words: &mut Words) -> Result<(), TextFault>
-    ensures reads { opening false (ahead words.old) ≡ leaving result (ahead words.new) }
-{
-    let mut comment = false;
     loop {
         match words.next() {
-            Token::Word(word, at) => {
-                if !comment {
-                    if !begins_comment(word) {
-                        return exact(word, at, b"p");
-                    }
-                    comment = true;
-                }
-            }
-            Token::LineEnd(at) => {
-                if !comment {
-                    return Err(TextFault::Shape(at));
-                }
-                comment = false;
-            }
+            Token::Word(_, _) => {}
+            Token::LineEnd(_) => return Ok(()),
             Token::End(at) => return Err(TextFault::Shape(at)),
         }
     }
 }
 
+// The word `p`, behind comment lines: a line is a comment when its first word begins with `c`.
+fn opening(words: &mut Words) -> Result<(), TextFault>
+    ensures reads { opening false (ahead words.old) ≡ leaving result (ahead words.new) }
+{
+    loop {
+        match words.next() {
+            Token::Word([b'c', ..], _) => skip_line(words)?,
+            Token::Word(word, at) => return exact(word, at, b"p"),
+            Token::LineEnd(at) | Token::End(at) => return Err(TextFault::Shape(at)),
+        }
+    }
+}
+
 impl<'a> Opening<'a> {
+    // A text of which nothing is read yet.
     pub fn new(text: &'a [u8]) -> Self
         ensures unread { ahead result.words ≡ lexemes_from 0 text.now }
     {

@@ -10,7 +10,7 @@ mod literal;
 
 use texts::Words;
 
-// A text of which nothing is read yet.
+// A text of which nothing is read yet. Clause texts have a type of their own for it, so that its heading gives the reader of rules.
 #[derive(Drop)]
 pub struct Opening<'a> {
     words: Words<'a>,
@@ -32,12 +32,5 @@ impl<'a> Rules<'a> {
         ensures value { result ≡ self.now.vars }
     {
         self.vars
-    }
-
-    // The number of rules.
-    pub fn count(&self) -> u16
-        ensures value { result ≡ self.now.count }
-    {
-        self.count
     }
 }

@@ -1,5 +1,5 @@
 -- What loading a clause text answers, and what the store holds then.
-use Rattle.std.specs.Prelude.{ℕ, ◌≤◌, Bool, cond, ◌&&◌, List, map, length, Ok, Err, Result, nat_le}
+use Rattle.std.specs.Prelude.{ℕ, Bool, cond, ◌&&◌, List, map, length, Ok, Err, Result, nat_le}
 use Rattle.faults.specs.declared.TextFault.{TextFault}
 use Rattle.faults.specs.declared.StoreFault.{StoreFault}
 use Rattle.faults.specs.declared.StoreFault.TheVariants.{Text, Short}
@@ -8,9 +8,8 @@ use Rattle.faults.specs.declared.SheetFault.TheVariants.{Store, WrongContacts}
 use Rattle.literals.specs.declared.LiteralSet.{LiteralSet}
 use Rattle.literals.specs.Literals.{set_of}
 use Rattle.stores.specs.Stores.{laid}
-use Rattle.texts.specs.Lexemes.{Lexeme}
 use Rattle.texts.specs.Due.{and_then}
-use Rattle.dimacs.specs.Cnf.{Cnf, body}
+use Rattle.dimacs.specs.Cnf.{Cnf}
 use Rattle.dimacs_load.specs.declared.Size.{Size}
 
 -- n is from 1 to 32, and at most V
@@ -37,19 +36,7 @@ abbrev pub store_after : Result Size SheetFault → Result Cnf TextFault → Lis
 store_after (Ok z) r s = laid (sets r) s
 store_after (Err e) r s = s
 
--- of the first pass: the size of the text
-abbrev pub sized : Result Cnf TextFault → Result Size TextFault
-sized r = and_then r (λ c. Ok (size_of c))
-
+-- what the first pass answers
 abbrev pub measured : Result Cnf TextFault → Result Size StoreFault
 measured (Ok c) = Ok (size_of c)
 measured (Err e) = Err (Text e)
-
--- n rules' lines and then the end, each rule as the set of its literals
-abbrev pub set_body : ℕ → ℕ → ℕ → List Lexeme → Result (List LiteralSet) TextFault
-set_body V n behind ts = and_then (body V n behind ts) (λ rs. Ok (map set_of rs))
-
--- the text was read, and there is a record for each rule
-abbrev pub Fits : Result Cnf TextFault → ℕ → Type 0
-Fits (Ok c) n = length c.rules ≤ n
-Fits (Err e) n = ⊥

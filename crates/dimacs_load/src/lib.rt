@@ -4,7 +4,8 @@
 mod calls;
 mod passes;
 
-pub use calls::{load, measure};
+pub use calls::load;
+pub use passes::measure;
 
 // How large a clause text is: its numbers of variables and of rules.
 #[derive(Clone, Copy)]

@@ -3,67 +3,76 @@ ghost use Rattle.std.specs.Prelude.{◌≡◌, ℕ, ◌+◌, ◌^◌, ◌<◌, �
 ghost use Rattle.dimacs.specs.Cnf.{read_cnf};
 ghost use Rattle.literals.specs.Literals.{listed};
 ghost use Rattle.dimacs_write.specs.Laws.{as_sets, ReadsBack, WrittenAgain};
-ghost use Rattle.dimacs_write.specs.Puts.{over, variable_text, written_over};
+ghost use Rattle.dimacs_write.specs.Puts.{over, Put, variable_text, written_over};
 ghost use Rattle.dimacs_write.specs.Texts.{rule_text, set_texts, set_text, written, buffer_after};
 
-use crate::bytes::{put_bytes, put_if, put_number, put_spaced};
+use super::Output;
 use faults::SheetFault;
 use literals::{LiteralSet, has_bit};
 
-// Puts the literals of variable k + 1 that the set has.
-fn put_variable(out: &mut [u8], at: usize, set: &LiteralSet, k: usize) -> usize
-    requires low { at < 2 ^ 58 }
-    requires few { k < 64 }
-    ensures bytes { out.new ≡ over out.old at (variable_text set.now k) }
-    ensures next { result ≡ at + length (variable_text set.now k) }
-    ensures most { result ≤ at + 8 }
-{
-    let next = put_if(out, at, has_bit(set.closed, k), false, k);
-    put_if(out, next, has_bit(set.opened, k), true, k)
-}
-
-// Puts a rule's line.
-fn put_rule(out: &mut [u8], at: usize, set: &LiteralSet, vars: usize) -> usize
-    requires low { at < 2 ^ 57 }
-    requires few { vars ≤ 64 }
-    ensures bytes { out.new ≡ over out.old at (rule_text (listed vars set.now)) }
-    ensures next { result ≡ at + length (rule_text (listed vars set.now)) }
-    ensures most { result ≤ at + 514 }
-{
-    let mut next = at;
-    for k in 0..vars {
-        next = put_variable(out, next, set, k);
+#[tactic(auto, using(crate::proofs::Buffers::puts))]
+impl<'a> Output<'a> {
+    // Puts the literals of variable k + 1 that the set has.
+    fn variable(&mut self, set: &LiteralSet, k: usize)
+        requires low { self.old.length < 2 ^ 58 }
+        requires few { k < 64 }
+        ensures put { Put self.old (variable_text set.now k) self.new }
+        ensures most { self.new.length ≤ self.old.length + 8 }
+    {
+        self.literal_if(has_bit(set.closed, k), false, k);
+        self.literal_if(has_bit(set.opened, k), true, k);
     }
-    put_bytes(out, next, b"0\n")
+
+    // Puts a rule's line.
+    fn rule(&mut self, set: &LiteralSet, vars: usize)
+        requires low { self.old.length < 2 ^ 57 }
+        requires few { vars ≤ 64 }
+        ensures put { Put self.old (rule_text (listed vars set.now)) self.new }
+        ensures most { self.new.length ≤ self.old.length + 514 }
+    {
+        for k in 0..vars {
+            self.variable(set, k);
+        }
+        self.bytes(b"0\n");
+    }
+
+    // Puts the lines of all rules.
+    fn rules(&mut self, rules: &[LiteralSet], vars: usize)
+        requires low { self.old.length < 2 ^ 32 }
+        requires few { vars ≤ 64 }
+        requires short { length rules.now ≤ 4096 }
+        ensures put { Put self.old (set_texts vars rules.now) self.new }
+    {
+        for set in rules {
+            self.rule(set, vars);
+        }
+    }
+
+    // Puts the whole text.
+    fn text(&mut self, rules: &[LiteralSet], vars: usize)
+        requires empty { self.old.length ≡ 0 }
+        requires few { vars ≤ 64 }
+        requires short { length rules.now ≤ 4096 }
+        ensures put { Put self.old (set_text vars rules.now) self.new }
+    {
+        self.bytes(b"p cnf ");
+        self.spaced(vars);
+        self.number(rules.len());
+        self.bytes(b"\n");
+        self.rules(rules, vars);
+    }
 }
 
-// Puts the lines of all rules.
-fn put_rules(out: &mut [u8], at: usize, rules: &[LiteralSet], vars: usize) -> usize
-    requires low { at < 2 ^ 32 }
+// Puts the whole text into a buffer, and tells its length.
+fn put_text(buffer: &mut [u8], rules: &[LiteralSet], vars: usize) -> usize
     requires few { vars ≤ 64 }
     requires short { length rules.now ≤ 4096 }
-    ensures bytes { out.new ≡ over out.old at (set_texts vars rules.now) }
-    ensures next { result ≡ at + length (set_texts vars rules.now) }
-{
-    let mut next = at;
-    for set in rules {
-        next = put_rule(out, next, set, vars);
-    }
-    next
-}
-
-// Puts the whole text.
-fn put_text(out: &mut [u8], rules: &[LiteralSet], vars: usize) -> usize
-    requires few { vars ≤ 64 }
-    requires short { length rules.now ≤ 4096 }
-    ensures bytes { out.new ≡ over out.old 0 (set_text vars rules.now) }
+    ensures bytes { buffer.new ≡ over buffer.old 0 (set_text vars rules.now) }
     ensures next { result ≡ length (set_text vars rules.now) }
 {
-    let at = put_bytes(out, 0, b"p cnf ");
-    let at = put_spaced(out, at, vars);
-    let at = put_number(out, at, rules.len());
-    let at = put_bytes(out, at, b"\n");
-    put_rules(out, at, rules, vars)
+    let mut output = Output::new(buffer);
+    output.text(rules, vars);
+    output.length
 }
 
 // Writes the text where the buffer has room for it. No buffer has room for more rules or variables than a clause text may have.

@@ -1,29 +1,19 @@
 -- Laying records into a store, one after another.
-use Rattle.std.proofs.Common.{◌≡◌, ℕ, ◌+◌, ◌-◌, ◌<◌, List, [], ◌∷◌, ◌++◌, length, take, drop, set, Ok, Err, Result, refl, ap, ◌∙◌, append_assoc, add-zero, zero-add, arith, take-append-drop}
-use Rattle.std.proofs.lemmas.List.{take_more_set, drop-set-lt}
+use Rattle.std.proofs.Common.{◌≡◌, ℕ, ◌≤◌, IsOk, List, [], ◌∷◌, length, take, Ok, Err, Result, sym, refl, ap, ◌∙◌, subst, append-nil, arith}
+use Rattle.std.proofs.lemmas.List.{take_all}
 use Rattle.faults.specs.declared.TextFault.{TextFault}
-use Rattle.stores.specs.Stores.{laid, verdict, before, laid_from, Room}
+use Rattle.stores.specs.Stores.{after}
+
+not_ok : (A : Type 0) (e : TextFault) → IsOk {T = List A} (Err e) → ⊥
+not_ok A e h = cc
 
 module _ {A : Type 0} where
-  pub same_verdict : (a : A) (r : Result (List A) TextFault) → verdict (before a r) ≡ verdict r
-  same_verdict a (Ok xs) = refl
-  same_verdict a (Err e) = refl
+  -- where a fault comes, not all can be read
+  pub no_fault : (s : List A) (e : TextFault) (r whole : Result (List A) TextFault) → r ≡ Err e → after s r ≡ whole → IsOk whole → ⊥
+  no_fault s e r whole h same readable = not_ok A e (subst IsOk (sym same ∙ ap (after s) h) readable)
 
-  pub room_one : (a : A) (r : Result (List A) TextFault) (n : ℕ) → Room (before a r) n → Room r (n - 1) × (0 < n)
-  room_one a (Ok xs) n h = (omega arith, omega arith)
-  room_one a (Err e) n h = absurd h
-
-  pub laid_one : (i : ℕ) (a : A) (r : Result (List A) TextFault) (s : List A) (n : ℕ) → i < length s → Room r n → laid_from (i + 1) r (set s i a) ≡ laid_from i (before a r) s
-  laid_one i a (Ok xs) s n h room =
-      let behind = drop-set-lt (i + 1 + length xs) s i a (omega arith) ∙ ap (λ k. drop k s) (omega arith) in
-      ap (λ l. l ++ (xs ++ drop (i + 1 + length xs) (set s i a))) (take_more_set s i a h)
-      ∙ append_assoc (take i s) (a ∷ []) (xs ++ drop (i + 1 + length xs) (set s i a))
-      ∙ ap (λ l. take i s ++ (a ∷ (xs ++ l))) behind
-  laid_one i a (Err e) s n h room = absurd room
-
-  pub laid_none : (i : ℕ) (s : List A) → laid_from i (Ok []) s ≡ s
-  laid_none i s = ap (λ j. take i s ++ drop j s) (add-zero i) ∙ take-append-drop i s
-
-  pub laid_all : (r : Result (List A) TextFault) (s : List A) → laid_from 0 r s ≡ laid r s
-  laid_all (Ok xs) s = ap (λ j. xs ++ drop j s) (zero-add (length xs))
-  laid_all (Err e) s = refl
+  -- where all was read, nothing is left
+  pub none_left : (s : List A) (n : ℕ) (r whole : Result (List A) TextFault) → length s ≤ n → ((xs : List A) → r ≡ Ok xs → length xs ≡ 0) → after (take n s) r ≡ whole → IsOk whole → whole ≡ Ok s
+  none_left s n (Ok []) whole h none e readable = sym e ∙ ap Ok (append-nil (take n s) ∙ take_all n s h)
+  none_left s n (Ok (x ∷ xs)) whole h none e readable = absurd (let more = none (x ∷ xs) refl in omega arith)
+  none_left s n (Err f) whole h none e readable = absurd (no_fault (take n s) f (Err f) whole refl e readable)

@@ -1,5 +1,5 @@
 -- Records that were read from a text, and a store that they are laid into.
-use Rattle.std.specs.Prelude.{ℕ, ◌+◌, ◌≤◌, cond, List, ◌∷◌, ◌++◌, length, take, drop, Ok, Err, Result, nat_le}
+use Rattle.std.specs.Prelude.{ℕ, ◌≤◌, cond, List, [], ◌∷◌, ◌++◌, length, drop, Ok, Err, Result, nat_le}
 use Rattle.faults.specs.declared.TextFault.{TextFault}
 use Rattle.faults.specs.declared.StoreFault.{StoreFault}
 use Rattle.faults.specs.declared.StoreFault.TheVariants.{Short}
@@ -23,10 +23,20 @@ abbrev pub before : {A : Type 0} → A → Result (List A) TextFault → Result 
 before a (Ok xs) = Ok (a ∷ xs)
 before a (Err e) = Err e
 
--- the records lie from place i on
-abbrev pub laid_from : {A : Type 0} → ℕ → Result (List A) TextFault → List A → List A
-laid_from i (Ok xs) s = take i s ++ (xs ++ drop (i + length xs) s)
-laid_from i (Err e) s = s
+-- the record that was read, before those that follow it
+abbrev pub with_first : {A : Type 0} → Result A TextFault → Result (List A) TextFault → Result (List A) TextFault
+with_first (Ok a) r = before a r
+with_first (Err e) r = Err e
+
+-- behind the last record nothing follows, if the end could be read
+abbrev pub nothing_behind : {A : Type 0} → Result (Unit {0}) TextFault → Result (List A) TextFault
+nothing_behind (Ok v) = Ok []
+nothing_behind (Err e) = Err e
+
+-- records that were read before them
+abbrev pub after : {A : Type 0} → List A → Result (List A) TextFault → Result (List A) TextFault
+after ys (Ok xs) = Ok (ys ++ xs)
+after ys (Err e) = Err e
 
 -- the records were read, and there are at most n
 abbrev pub Room : {A : Type 0} → Result (List A) TextFault → ℕ → Type 0

@@ -37,3 +37,6 @@ numeral_word w some lead all =
 
 pub numeral_not : (w : List ℕ) → all_ascii_digits w ≡ false → numeral w ≡ false
 numeral_not w none = and_right (ltb 0 (length w)) _ (and_left (all_ascii_digits w) _ none)
+
+-- what a reading of a number goes by
+pub ruleset readings = (digits_more, no_digit, capped, value_step, numeral_word, numeral_not)

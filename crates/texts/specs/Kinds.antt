@@ -1,11 +1,10 @@
 -- The two kinds of text, told apart by their first word.
-use Rattle.std.specs.Prelude.{ℕ, Bool, false, cond, List, [], ◌∷◌, Some, None, Option, nat_eq}
+use Rattle.std.specs.Prelude.{ℕ, Bool, false, not, List, find, Some, None, Option, nat_eq}
 use Rattle.texts.specs.Lexemes.{blank}
 
 -- the first byte other than space and line feed
 abbrev pub first_solid : List ℕ → Option ℕ
-first_solid [] = None
-first_solid (b ∷ bs) = cond (blank b) (first_solid bs) (Some b)
+first_solid text = find (λ b. not (blank b)) text
 
 -- a gate text begins with `a`; every other text, the empty one too, is a clause text
 abbrev pub gate_text : List ℕ → Bool

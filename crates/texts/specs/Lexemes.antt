@@ -46,7 +46,7 @@ lexemes_from p text = lexemes p (drop p text)
 
 -- what is not read yet
 abbrev pub ahead : Words → List Lexeme
-ahead s = lexemes_from s.at s.text.now
+ahead s = lexemes s.at s.rest.now
 
 -- one lexeme before the others; nothing stands behind the end
 abbrev pub then : Lexeme → List Lexeme → List Lexeme

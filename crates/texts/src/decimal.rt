@@ -18,13 +18,11 @@ fn with_digit(number: u32, digit: u8) -> u32
 
 // The number that the word writes, or `CAP` where it is more; `None` where the word is no number in base ten
 // or has needless zeros in front.
+#[tactic(auto, using(crate::proofs::Numerals::readings))]
 pub fn decimal(word: &[u8]) -> Option<u32>
     ensures value { result ≡ (if numeral word.now then Some (min (digits_value 10 word.now) 1000000) else None) }
 {
-    if word.is_empty() {
-        return None;
-    }
-    if word.len() > 1 && word[0] == b'0' {
+    if let [] | [b'0', _, ..] = word {
         return None;
     }
     let mut number = 0;

@@ -1,6 +1,5 @@
 // What is due next: one token, judged.
 ghost use Rattle.std.specs.Prelude.{◌≡◌, ◌≤◌, IfOk};
-ghost use Rattle.std.specs.Str.{bytes_eq};
 ghost use Rattle.texts.specs.Due.{length_due, limited, number, line_end_due, exact, exactly, ended, one, leaving};
 ghost use Rattle.texts.specs.Lexemes.{ahead};
 
@@ -21,12 +20,6 @@ pub fn check_length(text: &[u8]) -> Result<(), TextFault>
     Ok(())
 }
 
-fn same_bytes(word: &[u8], due: &[u8]) -> bool
-    ensures value { result ≡ bytes_eq word.now due.now }
-{
-    word == due
-}
-
 // The number of the word at that place, from `low` to `high`.
 pub fn limited(word: &[u8], place: usize, low: u16, high: u16) -> Result<u16, TextFault>
     ensures value { result ≡ limited low high word.now place }
@@ -43,7 +36,7 @@ pub fn limited(word: &[u8], place: usize, low: u16, high: u16) -> Result<u16, Te
 pub fn exact(word: &[u8], place: usize, due: &[u8]) -> Result<(), TextFault>
     ensures value { result ≡ exact due.now word.now place }
 {
-    if same_bytes(word, due) {
+    if word == due {
         Ok(())
     } else {
         Err(TextFault::Shape(place))

@@ -8,20 +8,12 @@ use crate::cut::is_blank;
 fn first_solid(text: &[u8]) -> Option<u8>
     ensures first { result ≡ first_solid text.now }
 {
-    for byte in text {
-        if !is_blank(*byte) {
-            return Some(*byte);
-        }
-    }
-    None
+    text.iter().copied().find(|byte| !is_blank(*byte))
 }
 
 // Whether a text is a gate text: its first byte other than space and line feed is `a`. Every other text, the empty one too, is a clause text.
 pub fn is_gate_text(text: &[u8]) -> bool
     ensures kind { result ≡ gate_text text.now }
 {
-    match first_solid(text) {
-        Some(byte) => byte == b'a',
-        None => false,
-    }
+    matches!(first_solid(text), Some(b'a'))
 }

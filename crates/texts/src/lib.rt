@@ -1,6 +1,8 @@
 // Cuts a text into words, each with its place, and judges what is due next in it.
 #![tactic(auto)]
 
+ghost use Rattle.std.specs.Prelude.{◌+◌, ◌<◌, ◌^◌, length};
+
 mod cut;
 mod decimal;
 mod due;
@@ -21,7 +23,9 @@ pub enum Token<'a> {
 // A text that is read from its front on, word by word.
 #[derive(Drop)]
 pub struct Words<'a> {
-    text: &'a [u8],
-    // the place of the first byte that is not read yet
+    // what is not read yet
+    rest: &'a [u8],
+    // the place of its first byte
     at: usize,
+    ghost fits: { at + length rest.now < 2 ^ 63 },
 }

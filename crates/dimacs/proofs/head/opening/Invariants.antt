@@ -3,8 +3,8 @@ use Rattle.texts.specs.Lexemes.{ahead}
 use Rattle.dimacs.specs.Cnf.{opening}
 use Rattle.dimacs.proofs.head.opening.Given as goal
 
-abbrev pub invariant-loop-word : goal.invariant-loop-word
-invariant-loop-word l = opening false (ahead l.initial.words) ≡ opening l.comment (ahead l.words)
+abbrev pub invariant-loop-words : goal.invariant-loop-words
+invariant-loop-words l = opening false (ahead l.initial.words) ≡ opening false (ahead l.words)
 
-abbrev pub decreases-loop-word : goal.decreases-loop-word
-decreases-loop-word l = length (ahead l.words)
+abbrev pub decreases-loop-words : goal.decreases-loop-words
+decreases-loop-words l = length (ahead l.words)

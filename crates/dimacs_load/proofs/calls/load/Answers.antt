@@ -1,5 +1,0 @@
-use Rattle.dimacs.proofs.Grammars.{reads_just}
-use Rattle.dimacs_load.proofs.calls.load.Goals as goal
-
-pub returns : goal.returns
-returns c = record { answer = c.lay.ensures.answer; store = c.lay.ensures.store; reads = reads_just c.args.text.now }
