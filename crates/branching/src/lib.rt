@@ -103,39 +103,30 @@ impl Demands {
     }
 }
 
-// Follows what is asked from the last gate that has no cause yet to an input; 0 where every gate has its cause.
-fn hint(known: &Implied, circuit: Circuit<'_>) -> usize {
+// Follows what is asked from the last gate that has no cause yet to an input, or where that leads; none where every gate has its cause.
+fn hint(known: &Implied, circuit: Circuit<'_>) -> Option<usize> {
     let mut demands = Demands::none();
     let mut last = None;
-    for index in (0..circuit.gates.len()).rev() {
+    for (index, gate) in circuit.gates.iter().enumerate().rev() {
         let variable = (circuit.inputs as usize + 1).saturating_add(index);
-        let gate = circuit.gates[index];
         let mut asked = demands.of(variable);
-        if is_unjustified(known, variable, gate) {
+        if is_unjustified(known, variable, *gate) {
             asked = asked.saturating_add(WHOLE);
-            if last.is_none() {
-                last = Some(index);
-            }
+            last = last.or(Some(index));
         }
         if asked > 0 {
-            demands.hand_on(known, gate, asked);
+            demands.hand_on(known, *gate, asked);
         }
     }
-    match last {
-        Some(index) => demands.trace(known, circuit, index),
-        None => 0,
-    }
+    Some(demands.trace(known, circuit, last?))
 }
 
 // An undecided input that bears on a gate without a cause, if there is one.
 pub fn choose(known: &Implied, circuit: Circuit<'_>, assignment: Assignment) -> Option<u8>
     ensures choice { Choice circuit.entry.inputs assignment false result }
 {
-    let variable = hint(known, circuit).min(255) as u8;
-    if variable == 0 {
-        return None;
-    }
-    let index = variable - 1;
+    // Input k is variable k + 1.
+    let index = u8::try_from(hint(known, circuit)?.checked_sub(1)?).ok()?;
     if index < circuit.inputs && !assignment.has_decided(index) {
         Some(index)
     } else {

@@ -20,7 +20,7 @@ use Rattle.search.specs.Assignments.{from_set, agreeing, filled, low_half}
 use Rattle.search.specs.Search.{Answer}
 use Rattle.search.proofs.Assignments.{length_filled, reading_low}
 use Rattle.clauses.specs.declared.ClauseSolver.{ClauseSolver}
-use Rattle.clauses.specs.Clauses.{InOrder, clause_variables, clause_good, clause_meaning}
+use Rattle.clauses.specs.Clauses.{clause_variables, clause_good, clause_meaning}
 
 -- ---- literals that name contacts, in a setting of more variables
 
@@ -57,39 +57,39 @@ some_and : (n : ℕ) (p : List Bool → Bool) (b : Bool) → some n (λ x. p x &
 some_and n p true = some_alike n (λ x. p x && true) p (λ x e. and_true (p x)) ∙ sym (and_true (some n p))
 some_and n p false = none_from n (λ x. p x && false) (λ x e. and_false (p x)) ∙ sym (and_false (some n p))
 
-module _ (s : ClauseSolver) (o : InOrder s) (ls : List ℤ) (named : first_unnamed s.contacts ls ≡ None) where
+module _ (s : ClauseSolver) (ls : List ℤ) (named : first_unnamed s.counts.contacts ls ≡ None) where
   -- what is searched for, at the contacts x and the inner variables y
   whole : List Bool → Bool
   whole z = clause_good s z && agreeing (from_set (set_of ls)) z
 
-  whole_split : (x y : List Bool) → length x ≡ s.contacts → length y ≡ s.inner → whole (x ++ y) ≡ ((all_met s.rules.now (x ++ y) && passes s.additions x) && fits ls x)
+  whole_split : (x y : List Bool) → length x ≡ s.counts.contacts → length y ≡ s.counts.inner → whole (x ++ y) ≡ ((all_met s.rules.now (x ++ y) && passes s.additions x) && fits ls x)
   unfolding whole
   whole_split x y ex ey =
-      ap₂ (λ p q. (all_met s.rules.now (x ++ y) && p) && q) (ap (passes s.additions) (take_front x y s.contacts ex))
-      (asked_front ls x y (omega (arith, length-append x y, o.few_variables)) (ap (λ n. first_unnamed n ls) ex ∙ named))
+      ap₂ (λ p q. (all_met s.rules.now (x ++ y) && p) && q) (ap (passes s.additions) (take_front x y s.counts.contacts ex))
+      (asked_front ls x y (omega (arith, length-append x y, s.counts.few_variables)) (ap (λ n. first_unnamed n ls) ex ∙ named))
 
-  stands_split : (x : List Bool) → length x ≡ s.contacts → some s.inner (λ y. whole (x ++ y)) ≡ stands_with (clause_meaning s) ls x
+  stands_split : (x : List Bool) → length x ≡ s.counts.contacts → some s.counts.inner (λ y. whole (x ++ y)) ≡ stands_with (clause_meaning s) ls x
   stands_split x ex =
-      some_alike s.inner (λ y. whole (x ++ y)) (λ y. (all_met s.rules.now (x ++ y) && passes s.additions x) && fits ls x) (λ y ey. whole_split x y ex ey)
-      ∙ some_and s.inner (λ y. all_met s.rules.now (x ++ y) && passes s.additions x) (fits ls x)
-      ∙ ap (λ b. b && fits ls x) (some_and s.inner (λ y. all_met s.rules.now (x ++ y)) (passes s.additions x))
+      some_alike s.counts.inner (λ y. whole (x ++ y)) (λ y. (all_met s.rules.now (x ++ y) && passes s.additions x) && fits ls x) (λ y ey. whole_split x y ex ey)
+      ∙ some_and s.counts.inner (λ y. all_met s.rules.now (x ++ y) && passes s.additions x) (fits ls x)
+      ∙ ap (λ b. b && fits ls x) (some_and s.counts.inner (λ y. all_met s.rules.now (x ++ y)) (passes s.additions x))
 
   pub answered_none : Answer (clause_variables s) (clause_good s) (from_set (set_of ls)) None → Answers (clause_meaning s) ls None
   unfolding whole
   answered_none h =
-      sym (some_alike s.contacts (λ x. some s.inner (λ y. whole (x ++ y))) (stands_with (clause_meaning s) ls) stands_split)
-      ∙ sym (some_append s.contacts s.inner whole) ∙ h
+      sym (some_alike s.counts.contacts (λ x. some s.counts.inner (λ y. whole (x ++ y))) (stands_with (clause_meaning s) ls) stands_split)
+      ∙ sym (some_append s.counts.contacts s.counts.inner whole) ∙ h
 
   -- the setting in the answer is the contacts' part of the assignment found
   pub answered_some : (a : Assignment) → Answer (clause_variables s) (clause_good s) (from_set (set_of ls)) (Some a) → Answers (clause_meaning s) ls (Some (low_half a))
   unfolding whole
   answered_some a h =
-      let n = s.contacts in
-      let m = s.inner in
+      let n = s.counts.contacts in
+      let m = s.counts.inner in
       let x = reading n (low_half a) in
       let y = drop n (filled (n + m) a) in
       let front : take n (filled (n + m) a) ≡ x =
-      take-map-range_with_len (λ k. bit a.closed k) 0 (n + m) n (omega arith) ∙ sym (reading_low n a o.few_contacts) in
+      take-map-range_with_len (λ k. bit a.closed k) 0 (n + m) n (omega arith) ∙ sym (reading_low n a s.counts.few_contacts) in
       let join : x ++ y ≡ filled (n + m) a = ap (λ z. z ++ y) (sym front) ∙ take-append-drop n (filled (n + m) a) in
       let ex : length x ≡ n = length-map-range_with_len (λ k. bit (low_half a).closed k) 0 n in
       let ey : length y ≡ m = length-drop n (filled (n + m) a) ∙ ap (λ k. k - n) (length_filled (n + m) a) ∙ omega arith in

@@ -1,16 +1,17 @@
 // The clause solver: a setting is in its base set when some values of the inner variables, numbered above the contacts, meet all loaded rules together with it.
 #![tactic(auto)]
 
-ghost use Rattle.std.specs.Prelude.{◌≡◌, ℕ, ◌+◌, ◌≤◌, None};
+ghost use Rattle.std.specs.Prelude.{◌≡◌, ◌+◌, None};
 ghost use Rattle.literals.specs.Literals.{first_unnamed};
 ghost use Rattle.solver.specs.Meaning.{Answers};
-ghost use Rattle.clauses.specs.Clauses.{Counted, loaded_meaning, clause_contacts, clause_variables, clause_base, clause_added, clause_bars, clause_meaning, clause_good, clause_scan, clause_unmet, InOrder, in_order_few, in_order_variables};
+ghost use Rattle.rules.specs.Rules.{has_unmet};
+ghost use Rattle.clauses.specs.Clauses.{loaded_meaning, clause_contacts, clause_variables, clause_base, clause_added, clause_bars, clause_meaning, clause_good, clause_scan, clause_unmet};
 
 use additions::Additions;
 use counts::VariableCounts;
-use faults::{SheetFault, SolverFault};
+use faults::SolverFault;
 use literals::{LiteralSet, find_unnamed};
-use rules::{Scan, Tally, find_forced};
+use rules::{Finding, Tally, find_forced, find_forced_in_both};
 use search::{Assignment, Found, Look};
 use settings::Setting;
 use solver::Solver;
@@ -21,24 +22,8 @@ pub mod counts;
 #[derive(Drop)]
 pub struct ClauseSolver<'a> {
     rules: &'a [LiteralSet],
-    contacts: u8,
-    inner: u8,
+    counts: VariableCounts,
     additions: Additions,
-}
-
-impl VariableCounts {
-    // Refuses unless there are 1 to 32 contacts and at most 64 variables, the contacts among them.
-    pub fn new(variables: usize, contacts: usize) -> Result<Self, SheetFault>
-        ensures counted { Counted variables contacts result }
-    {
-        if contacts < 1 || contacts > 32 || contacts > variables || variables > 64 {
-            return Err(SheetFault::WrongContacts);
-        }
-        Ok(VariableCounts {
-            contacts: contacts as u8,
-            inner: (variables - contacts) as u8,
-        })
-    }
 }
 
 impl<'a> ClauseSolver<'a> {
@@ -46,12 +31,10 @@ impl<'a> ClauseSolver<'a> {
     pub fn new(rules: &'a [LiteralSet], counts: VariableCounts) -> Self
         ensures meaning { clause_meaning result ≡ loaded_meaning counts.contacts counts.inner rules.now }
         ensures rules { result.rules.now ≡ rules.now }
-        ensures ordered { InOrder result }
     {
         ClauseSolver {
             rules,
-            contacts: counts.contacts,
-            inner: counts.inner,
+            counts,
             additions: Additions::none(),
         }
     }
@@ -65,54 +48,43 @@ impl<'a> ClauseSolver<'a> {
 
     // The number of contacts and inner variables.
     pub fn variable_count(&self) -> usize
-        ensures count { result ≡ self.now.contacts + self.now.inner }
+        ensures count { result ≡ self.now.counts.contacts + self.now.counts.inner }
     {
-        self.contacts as usize + self.inner as usize
+        usize::from(self.counts.variables())
     }
 }
 
 impl ClauseSolver<'_> {
     // The first rule that forces a literal or has failed: among the loaded rules, then the added ones, then the bars as rules.
-    fn scan(&self, assignment: Assignment) -> Scan
-        requires ordered { InOrder self.now }
+    fn scan(&self, assignment: Assignment) -> Option<Finding>
         ensures first { result ≡ clause_scan self.now assignment }
     {
-        match find_forced(self.rules, false, self.contacts + self.inner, assignment) {
-            Scan::Quiet => match find_forced(
-                self.additions.rules(),
-                false,
-                self.contacts,
-                assignment,
-            ) {
-                Scan::Quiet => find_forced(self.additions.bars(), true, self.contacts, assignment),
-                found => found,
-            },
-            found => found,
-        }
+        let (added, bars) = (self.additions.rules(), self.additions.bars());
+        let contacts = self.counts.contacts;
+        find_forced(self.rules, false, self.counts.variables(), assignment).or_else(
+            || find_forced_in_both(added, bars, contacts, assignment),
+        )
     }
 
     // How often each variable occurs in the shortest rules that are not met, of all three kinds.
     fn tally(&self, assignment: Assignment) -> Tally
-        requires ordered { InOrder self.now }
-        ensures unmet { result.unmet ≡ clause_unmet self.now assignment }
+        ensures unmet { has_unmet result ≡ clause_unmet self.now assignment }
     {
+        let contacts = self.counts.contacts;
         let mut tally = Tally::empty();
-        tally.add(self.rules, false, self.contacts + self.inner, assignment);
-        tally.add(self.additions.rules(), false, self.contacts, assignment);
-        tally.add(self.additions.bars(), true, self.contacts, assignment);
+        tally.add(self.rules, false, self.counts.variables(), assignment);
+        tally.add(self.additions.rules(), false, contacts, assignment);
+        tally.add(self.additions.bars(), true, contacts, assignment);
         tally
     }
 
     // A standing setting that agrees with the literals, each of which names a contact; none exactly where there is none.
     fn answer(&self, literals: &[i8]) -> Option<Setting>
-        requires ordered { InOrder self.now }
-        requires named { first_unnamed self.now.contacts literals.now ≡ None }
+        requires named { first_unnamed self.now.counts.contacts literals.now ≡ None }
         ensures answer { Answers (clause_meaning self.now) literals.now result }
     {
-        match search::find(self, Assignment::of(LiteralSet::from(literals))) {
-            Some(found) => Some(found.setting()),
-            None => None,
-        }
+        let found = search::find(self, LiteralSet::from(literals).into())?;
+        Some(found.into())
     }
 }
 
@@ -121,21 +93,18 @@ impl<'a> Look for ClauseSolver<'a> {
 
     ghost good = { clause_good };
 
-    ghost ordered = { InOrder };
-
-    ghost few = { in_order_variables };
+    ghost few = { λ s. s.counts.few_variables };
 
     fn variables(&self) -> u8 {
-        self.contacts + self.inner
+        self.counts.variables()
     }
 
     fn look(&self, assignment: Assignment) -> Found {
         match self.scan(assignment) {
-            Scan::Failed => Found::Conflict,
-            Scan::Forced { variable, closed } => Found::Forced { variable, closed },
-            Scan::Quiet => match self
+            Some(finding) => finding.into(),
+            None => match self
                 .tally(assignment)
-                .choose(self.contacts + self.inner, assignment)
+                .choose(self.counts.variables(), assignment)
             {
                 Some(variable) => Found::Split(variable),
                 None => Found::Met,
@@ -153,27 +122,27 @@ impl<'a> Solver for ClauseSolver<'a> {
 
     ghost bars = { clause_bars };
 
-    ghost ordered = { InOrder };
+    ghost ordered = { λ s. Unit {0} };
 
-    ghost few = { in_order_few };
+    ghost few = { λ s o. (s.counts.some_contact, s.counts.few_contacts) };
 
     fn contacts(&self) -> usize {
-        usize::from(self.contacts)
+        usize::from(self.counts.contacts)
     }
 
     fn ask(&mut self, literals: &[i8]) -> Result<Option<Setting>, SolverFault> {
-        if let Some(place) = find_unnamed(self.contacts as usize, literals) {
+        if let Some(place) = find_unnamed(self.counts.contacts as usize, literals) {
             return Err(SolverFault::BadLiteral(place));
         }
         Ok(self.answer(literals))
     }
 
     fn add(&mut self, literals: &[i8]) -> Result<(), SolverFault> {
-        self.additions.add(self.contacts as usize, literals)
+        self.additions.add(self.counts.contacts as usize, literals)
     }
 
     fn bar(&mut self, literals: &[i8]) -> Result<(), SolverFault> {
-        self.additions.bar(self.contacts as usize, literals)
+        self.additions.bar(self.counts.contacts as usize, literals)
     }
 
     fn clear(&mut self) {

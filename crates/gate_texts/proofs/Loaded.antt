@@ -8,6 +8,7 @@ use Rattle.faults.specs.declared.SheetFault.TheVariants.{Store, WrongContacts}
 use Rattle.faults.specs.declared.StoreFault.TheVariants.{Text, Short}
 use Rattle.settings.specs.Least.{least}
 use Rattle.laws.proofs.Least.{least_alike}
+use Rattle.solver.specs.Count.{suits}
 use Rattle.solver.specs.Meaning.{stands_with}
 use Rattle.sheets.specs.Sheets.{SheetMeaning, opened}
 use Rattle.sheets.specs.Answers.{least_answer}
@@ -17,9 +18,9 @@ use Rattle.aiger.specs.Aag.{Aag, read_aag}
 use Rattle.aiger.proofs.Grammars.{reads_just}
 use Rattle.aiger_load.specs.declared.Network.{Network}
 use Rattle.aiger_load.specs.Loads.{network_of, loaded, gates}
-use Rattle.networks.specs.Networks.{network_allows}
+use Rattle.networks.specs.Networks.{network_allows, first_gates}
 use Rattle.gates.specs.declared.GateSolver.{GateSolver}
-use Rattle.gates.specs.Gates.{gate_meaning, loaded_meaning, first_gates, suits}
+use Rattle.gates.specs.Gates.{gate_meaning, loaded_meaning}
 use Rattle.clause_texts.specs.Answer.{found}
 use Rattle.clause_texts.proofs.Loaded.{front_is}
 use Rattle.gate_texts.specs.Answer.{once_loaded, text_least, network_least}

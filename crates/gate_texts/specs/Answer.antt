@@ -9,11 +9,12 @@ use Rattle.aiger.specs.declared.Gate.{Gate}
 use Rattle.aiger.specs.Aag.{Aag}
 use Rattle.aiger_load.specs.declared.Network.{Network}
 use Rattle.aiger_load.specs.Loads.{loaded}
-use Rattle.networks.specs.Networks.{network_allows}
+use Rattle.networks.specs.Networks.{network_allows, first_gates}
+use Rattle.solver.specs.Count.{suits}
 use Rattle.sheets.specs.Sheets.{opened}
 use Rattle.sheets.specs.Answers.{least_answer}
 use Rattle.clause_texts.specs.Answer.{found}
-use Rattle.gates.specs.Gates.{loaded_meaning, first_gates, suits}
+use Rattle.gates.specs.Gates.{loaded_meaning}
 
 -- what loading refuses is refused first: the text, the number of contacts, the room in the store
 abbrev pub once_loaded : Result Network SheetFault → Result (List ℤ) SheetFault → Result (List ℤ) SheetFault

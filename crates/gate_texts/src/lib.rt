@@ -10,8 +10,8 @@ use aiger::Gate;
 use aiger_load::load;
 use faults::SheetFault;
 use gates::GateSolver;
-use gates::counts::InputCount;
 use sheets::Sheet;
+use solver::ContactCount;
 use witnesses::WitnessCache;
 
 // Writes the literals of the earliest setting of the inputs at which the output is 1.
@@ -24,7 +24,7 @@ fn least_of_gates(
     ensures answer { result ≡ told (network_least inputs gates.now output (length out.old)) }
     ensures buffer { out.new ≡ written (network_least inputs gates.now output (length out.old)) out.old }
 {
-    let count = InputCount::new(inputs)?;
+    let count = ContactCount::new(inputs)?;
     let solver = GateSolver::new(gates, output, count);
     let cache = WitnessCache::new(solver);
     let mut sheet = Sheet::open(cache, 1);

@@ -4,11 +4,10 @@ use aiger::Gate;
 use clauses::ClauseSolver;
 use clauses::counts::VariableCounts;
 use gates::GateSolver;
-use gates::counts::InputCount;
 use literals::LiteralSet;
 use settings::Setting;
 use sheets::Sheet;
-use solver::Solver;
+use solver::{ContactCount, Solver};
 use tables::table::Table;
 use trials::{least_under, why_under};
 use witnesses::WitnessCache;
@@ -191,7 +190,7 @@ fn rules_of(network: &Network) -> Table<LiteralSet, 160> {
 }
 
 fn are_right_by_gates(network: &Network, held: &[i8; 3], due: &Answers) -> bool {
-    let Ok(count) = InputCount::new(usize::from(network.inputs)) else {
+    let Ok(count) = ContactCount::new(usize::from(network.inputs)) else {
         return false;
     };
     let gates: &[Gate] = &network.gates;
@@ -200,7 +199,7 @@ fn are_right_by_gates(network: &Network, held: &[i8; 3], due: &Answers) -> bool 
 }
 
 fn are_right_by_cache(network: &Network, held: &[i8; 3], due: &Answers) -> bool {
-    let Ok(count) = InputCount::new(usize::from(network.inputs)) else {
+    let Ok(count) = ContactCount::new(usize::from(network.inputs)) else {
         return false;
     };
     let gates: &[Gate] = &network.gates;
@@ -247,7 +246,7 @@ fn any_stands(network: &Network, added: &[i8], bar: &[i8], asked: &[i8]) -> bool
 
 // With a rule and a bar added, ASK says no only where no setting stands, and yes with one that does.
 pub fn is_ask_right(network: &Network, added: &[i8], bar: &[i8], asked: &[i8]) -> bool {
-    let Ok(own) = InputCount::new(usize::from(network.inputs)) else {
+    let Ok(own) = ContactCount::new(usize::from(network.inputs)) else {
         return false;
     };
     let gates: &[Gate] = &network.gates;

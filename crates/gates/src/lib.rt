@@ -4,31 +4,25 @@
 ghost use Rattle.std.specs.Prelude.{◌≡◌, ◌≤◌, true, None};
 ghost use Rattle.literals.specs.Literals.{first_unnamed};
 ghost use Rattle.settings.specs.Readings.{reading};
-ghost use Rattle.search.specs.Search.{Says, Sees};
+ghost use Rattle.search.specs.Search.{Says};
 ghost use Rattle.search.specs.Assignments.{undecided};
 ghost use Rattle.rules.specs.Rules.{Choice};
 ghost use Rattle.solver.specs.Meaning.{Answers};
-ghost use Rattle.gates.specs.Gates.{Counted, first_gates, loaded_meaning, gate_contacts, gate_base, gate_added, gate_bars, gate_meaning, gate_good, gate_scan, InOrder, in_order_few, in_order_variables};
+ghost use Rattle.networks.specs.Networks.{first_gates};
+ghost use Rattle.gates.specs.Gates.{loaded_meaning, gate_contacts, gate_base, gate_added, gate_bars, gate_meaning, gate_good, gate_scan, few_variables};
 
 use additions::Additions;
 use aiger::Gate;
 use branching::choose;
-use counts::InputCount;
-use faults::{SheetFault, SolverFault};
+use faults::SolverFault;
 use implications::imply;
 use lanes::{count_undecided, try_all};
 use literals::{LiteralSet, find_unnamed};
 use networks::Circuit;
-use rules::{Scan, find_forced_in_both, first_undecided};
-use search::leaps::{Leap, Sight, find_leaping};
-use search::{Assignment, Found};
+use rules::{Finding, find_forced_in_both, first_undecided};
+use search::{Assignment, Found, Look, find};
 use settings::Setting;
-use solver::Solver;
-
-pub mod counts;
-
-// A network has at most 2,048 gates.
-const MOST_GATES: usize = 2_048;
+use solver::{ContactCount, Solver};
 
 // The settings of up to six undecided inputs are tried at once.
 const AT_ONCE: u8 = 6;
@@ -43,39 +37,13 @@ pub struct GateSolver<'a> {
     additions: Additions,
 }
 
-impl InputCount {
-    // Refuses unless there are 1 to 32 inputs.
-    pub fn new(inputs: usize) -> Result<Self, SheetFault>
-        ensures counted { Counted inputs result }
-    {
-        if inputs < 1 || inputs > 32 {
-            return Err(SheetFault::WrongContacts);
-        }
-        Ok(InputCount {
-            inputs: inputs as u8,
-        })
-    }
-}
-
-// The records of a network: the first 2,048, if there are more.
-fn first_gates<'a>(gates: &'a [Gate]) -> &'a [Gate]
-    ensures first { result.now ≡ first_gates gates.now }
-{
-    &gates[0..gates.len().min(MOST_GATES)]
-}
-
 impl<'a> GateSolver<'a> {
     // A solver over lent records, with no added rule and no bar. A side of a gate that names the gate itself or a later one reads as false, as does an output beyond the gates.
-    pub fn new(gates: &'a [Gate], output: u16, count: InputCount) -> Self
-        ensures meaning { gate_meaning result ≡ loaded_meaning count.inputs (first_gates gates.now) output }
-        ensures ordered { InOrder result }
+    pub fn new(gates: &'a [Gate], output: u16, count: ContactCount) -> Self
+        ensures meaning { gate_meaning result ≡ loaded_meaning count.contacts (first_gates gates.now) output }
     {
         GateSolver {
-            circuit: Circuit {
-                gates: first_gates(gates),
-                inputs: count.inputs,
-                output,
-            },
+            circuit: Circuit::new(gates, count, output),
             additions: Additions::none(),
         }
     }
@@ -83,7 +51,7 @@ impl<'a> GateSolver<'a> {
 
 impl GateSolver<'_> {
     // The first added rule that forces a literal or has failed, then the first such bar as a rule.
-    fn scan(&self, assignment: Assignment) -> Scan
+    fn scan(&self, assignment: Assignment) -> Option<Finding>
         ensures first { result ≡ gate_scan self.now assignment }
     {
         find_forced_in_both(
@@ -96,7 +64,6 @@ impl GateSolver<'_> {
 
     // Whether a setting stands, by evaluating every gate, added rule and bar.
     fn stands(&self, setting: Setting) -> bool
-        requires ordered { InOrder self.now }
         ensures standing { result ≡ gate_good self.now (reading (gate_contacts self.now) setting) }
     {
         self.circuit.allows(setting) && self.additions.allows(self.circuit.inputs as usize, setting)
@@ -104,11 +71,10 @@ impl GateSolver<'_> {
 
     // Yes if the assignment stands with the rest open, else a choice; no where all is decided.
     fn decide(&self, assignment: Assignment, choice: Option<u8>) -> Found
-        requires ordered { InOrder self.now }
         requires choice { Choice (gate_contacts self.now) assignment true choice }
         ensures says { Says (gate_contacts self.now) (gate_good self.now) assignment result }
     {
-        if self.stands(assignment.setting()) {
+        if self.stands(assignment.into()) {
             return Found::Met;
         }
         match choice {
@@ -119,44 +85,35 @@ impl GateSolver<'_> {
 
     // What follows from the assignment through the gates, else a choice.
     fn look_through_gates(&self, assignment: Assignment) -> Found
-        requires ordered { InOrder self.now }
         ensures says { Says (gate_contacts self.now) (gate_good self.now) assignment result }
     {
-        match imply(self.circuit, assignment) {
-            None => Found::Conflict,
-            Some(known) => {
-                let narrower = known.narrowed(self.circuit.inputs, assignment);
-                if !narrower.is_same(assignment) {
-                    return Found::Narrowed(narrower);
-                }
-                match choose(&known, self.circuit, assignment) {
-                    Some(index) => Found::Split(index),
-                    None => self.decide(
-                        assignment,
-                        first_undecided(self.circuit.inputs, assignment),
-                    ),
-                }
-            }
+        let Some(known) = imply(self.circuit, assignment) else {
+            return Found::Conflict;
+        };
+        let narrower = known.narrowed(self.circuit.inputs, assignment);
+        if narrower != assignment {
+            return Found::Narrowed(narrower);
+        }
+        match choose(&known, self.circuit, assignment) {
+            Some(index) => Found::Split(index),
+            None => self.decide(assignment, first_undecided(self.circuit.inputs, assignment)),
         }
     }
 
     // What the added rules and bars force, else what follows through the gates, else a choice.
     fn look_ahead(&self, assignment: Assignment) -> Found
-        requires ordered { InOrder self.now }
         ensures says { Says (gate_contacts self.now) (gate_good self.now) assignment result }
     {
         match self.scan(assignment) {
-            Scan::Failed => Found::Conflict,
-            Scan::Forced { variable, closed } => Found::Forced { variable, closed },
-            Scan::Quiet => self.look_through_gates(assignment),
+            Some(finding) => finding.into(),
+            None => self.look_through_gates(assignment),
         }
     }
 
     // All settings that agree with an assignment that leaves at most six inputs undecided, at once.
-    fn try_lanes(&self, assignment: Assignment) -> Sight
-        requires ordered { InOrder self.now }
+    fn try_lanes(&self, assignment: Assignment) -> Found
         requires few { undecided (gate_contacts self.now) assignment ≤ 6 }
-        ensures sees { Sees (gate_contacts self.now) (gate_good self.now) assignment result }
+        ensures says { Says (gate_contacts self.now) (gate_good self.now) assignment result }
     {
         match try_all(
             self.circuit,
@@ -164,14 +121,13 @@ impl GateSolver<'_> {
             self.additions.bars(),
             assignment,
         ) {
-            Some(good) => Sight::MetBy(good),
-            None => Sight::Plain(Found::Conflict),
+            Some(good) => Found::MetBy(good),
+            None => Found::Conflict,
         }
     }
 
     // A choice without a look ahead.
     fn split(&self, assignment: Assignment) -> Found
-        requires ordered { InOrder self.now }
         ensures says { Says (gate_contacts self.now) (gate_good self.now) assignment result }
     {
         match first_undecided(self.circuit.inputs, assignment) {
@@ -182,38 +138,33 @@ impl GateSolver<'_> {
 
     // A standing setting that agrees with the literals, each of which names a contact; none exactly where there is none.
     fn answer(&self, literals: &[i8]) -> Option<Setting>
-        requires ordered { InOrder self.now }
         requires named { first_unnamed (gate_contacts self.now) literals.now ≡ None }
         ensures answer { Answers (gate_meaning self.now) literals.now result }
     {
-        match find_leaping(self, Assignment::of(LiteralSet::from(literals))) {
-            Some(found) => Some(found.setting()),
-            None => None,
-        }
+        let found = find(self, LiteralSet::from(literals).into())?;
+        Some(found.into())
     }
 }
 
-impl<'a> Leap for GateSolver<'a> {
+impl<'a> Look for GateSolver<'a> {
     ghost size = { gate_contacts };
 
     ghost good = { gate_good };
 
-    ghost ordered = { InOrder };
-
-    ghost few = { in_order_variables };
+    ghost few = { few_variables };
 
     fn variables(&self) -> u8 {
         self.circuit.inputs
     }
 
-    fn leap(&self, assignment: Assignment) -> Sight {
+    fn look(&self, assignment: Assignment) -> Found {
         let undecided = count_undecided(self.circuit.inputs, assignment);
         if undecided <= AT_ONCE {
             self.try_lanes(assignment)
         } else if undecided <= TRIED_ALL {
-            Sight::Plain(self.split(assignment))
+            self.split(assignment)
         } else {
-            Sight::Plain(self.look_ahead(assignment))
+            self.look_ahead(assignment)
         }
     }
 }
@@ -227,9 +178,9 @@ impl<'a> Solver for GateSolver<'a> {
 
     ghost bars = { gate_bars };
 
-    ghost ordered = { InOrder };
+    ghost ordered = { λ s. Unit {0} };
 
-    ghost few = { in_order_few };
+    ghost few = { λ s o. (s.circuit.some_input, s.circuit.few_inputs) };
 
     fn contacts(&self) -> usize {
         usize::from(self.circuit.inputs)

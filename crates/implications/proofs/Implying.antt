@@ -6,8 +6,8 @@ use Rattle.literals.specs.Literals.{has}
 use Rattle.search.specs.declared.Assignment.{Assignment}
 use Rattle.search.specs.Assignments.{agreeing, taken}
 use Rattle.search.proofs.Pointwise.{covers_out}
-use Rattle.networks.specs.declared.Circuit.{Circuit}
-use Rattle.networks.specs.Circuits.{Small, circuit_allows, computed, value_in, readable}
+use Rattle.networks.specs.declared.lent_gates.Circuit.{Circuit}
+use Rattle.networks.specs.Circuits.{circuit_allows, computed, value_in, readable}
 use Rattle.networks.proofs.Circuits.{computed_zero, computed_input, computed_output}
 use Rattle.implications.specs.declared.Ternary.{Ternary}
 use Rattle.implications.specs.declared.Ternary.TheVariants.{Unknown, Zero, One}
@@ -36,7 +36,7 @@ agree_cond false true true f g = absurd (both_ways _ (g refl) refl)
 agree_cond false true false f g = refl
 agree_cond false false b f g = tt
 
-module _ (c : Circuit) (small : Small c) (a : Assignment) (x : List Bool) (long : length x ≡ c.inputs) (ok : circuit_allows c x ≡ true) (fit : agreeing a x ≡ true) where
+module _ (c : Circuit) (a : Assignment) (x : List Bool) (long : length x ≡ c.inputs) (ok : circuit_allows c x ≡ true) (fit : agreeing a x ≡ true) where
   -- what the assignment says of an input is so
   pub assigned_agrees : (k : ℕ) → k < c.inputs → Agree (assigned a k) (computed c.gates.now x (k + 1))
   assigned_agrees k lt =
@@ -50,7 +50,7 @@ module _ (c : Circuit) (small : Small c) (a : Assignment) (x : List Bool) (long 
   output_right before after p l e whole noting s =
       let V = computed c.gates.now x in
       let m : ℕ = c.inputs + 1 + length c.gates.now in
-      let below : l / 2 < 2081 = subst (λ l. l / 2 < 2081) (sym e) (readable_below 2081 m c.output (omega (arith, small.few_inputs, small.few_gates)) (omega arith)) in
+      let below : l / 2 < 2081 = subst (λ l. l / 2 < 2081) (sym e) (readable_below 2081 m c.output (omega (arith, c.few_inputs, c.few_gates)) (omega arith)) in
       holds_from 2081 V p after (demanded before l) noting
       (demanded_right 2081 V before whole s l below (ap (value_in V) e ∙ computed_output c.gates.now x c.inputs long c.output m refl ∙ ok))
 

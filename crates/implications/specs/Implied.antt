@@ -2,7 +2,7 @@
 use Rattle.std.specs.Prelude.{◌≡◌, ℕ, ◌+◌, ◌<◌, Bool, true, false, List, length, Some, None, Option, ◌≢◌, slice_index_or}
 use Rattle.search.specs.declared.Assignment.{Assignment}
 use Rattle.search.specs.Assignments.{agreeing}
-use Rattle.networks.specs.declared.Circuit.{Circuit}
+use Rattle.networks.specs.declared.lent_gates.Circuit.{Circuit}
 use Rattle.networks.specs.Circuits.{circuit_allows, computed}
 use Rattle.implications.specs.declared.Ternary.{Ternary}
 use Rattle.implications.specs.declared.Ternary.TheVariants.{Unknown, Zero, One}

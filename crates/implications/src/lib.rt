@@ -4,7 +4,7 @@
 
 ghost use Rattle.std.specs.Prelude.{◌≡◌, ℕ, ◌+◌, ◌*◌, ◌/◌, ◌<◌, ◌≤◌, Bool, true, false, List, length, slice_index_or};
 ghost use Rattle.networks.specs.Networks.{no_gate};
-ghost use Rattle.networks.specs.Circuits.{Small, Obeys};
+ghost use Rattle.networks.specs.Circuits.{Obeys};
 ghost use Rattle.implications.specs.Ternaries.{opposite, inferred, is_contradiction, both, known, written, left_by, demanded, followed, step_at, assigned, taken_from, narrowed};
 ghost use Rattle.implications.specs.declared.Ternary.TheVariants.{Unknown};
 ghost use Rattle.implications.specs.Implied.{Agree, Sound, Holds, Implies};
@@ -209,7 +209,6 @@ fn step(values: &mut [Ternary], variable: u16, gate: Gate) -> Progress
 
 // The same at the gate of an index.
 fn step_at(values: &mut [Ternary], circuit: Circuit<'_>, index: usize) -> Progress
-    requires small { Small circuit }
     requires whole { length values.old ≡ 2081 }
     requires within { index < length circuit.gates.now }
     ensures stepped { left_by result values.new ≡ step_at values.old (circuit.entry.inputs + 1 + index) (slice_index_or circuit.entry.gates.now index no_gate) }
@@ -220,7 +219,6 @@ fn step_at(values: &mut [Ternary], circuit: Circuit<'_>, index: usize) -> Progre
 
 // One pass over the gates, from the inputs to the output.
 fn sweep_up(values: &mut [Ternary], circuit: Circuit<'_>) -> Progress
-    requires small { Small circuit }
     requires whole { length values.old ≡ 2081 }
     ensures right { (V : ℕ → Bool) → Obeys (circuit.entry.inputs + 1) circuit.entry.gates.now V → Sound values.old V → Holds V result values.new }
 {
@@ -236,7 +234,6 @@ fn sweep_up(values: &mut [Ternary], circuit: Circuit<'_>) -> Progress
 
 // One pass over the gates, from the output to the inputs.
 fn sweep_down(values: &mut [Ternary], circuit: Circuit<'_>) -> Progress
-    requires small { Small circuit }
     requires whole { length values.old ≡ 2081 }
     ensures right { (V : ℕ → Bool) → Obeys (circuit.entry.inputs + 1) circuit.entry.gates.now V → Sound values.old V → Holds V result values.new }
 {
@@ -252,7 +249,6 @@ fn sweep_down(values: &mut [Ternary], circuit: Circuit<'_>) -> Progress
 
 // Passes over the gates, up and down, until nothing changes; at most so many, since each may change little.
 fn propagate(values: &mut [Ternary], circuit: Circuit<'_>) -> Progress
-    requires small { Small circuit }
     requires whole { length values.old ≡ 2081 }
     ensures right { (V : ℕ → Bool) → Obeys (circuit.entry.inputs + 1) circuit.entry.gates.now V → Sound values.old V → Holds V result values.new }
 {
@@ -311,7 +307,6 @@ pub struct Implied {
 
 // What follows from an assignment of the inputs where the output is 1; none where that cannot be.
 pub fn imply(circuit: Circuit<'_>, assignment: Assignment) -> Option<Implied>
-    requires small { Small circuit }
     ensures implied { Implies circuit.entry assignment result }
 {
     let mut values = first_values(circuit.inputs, assignment);

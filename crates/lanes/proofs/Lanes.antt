@@ -9,7 +9,7 @@ use Rattle.literals.proofs.Bits.{xor, bit_of_or, bit_of_and, bit_of_xor, bit_zer
 use Rattle.literals.proofs.Booleans.{and_assoc, or_assoc, or_false, and_true}
 use Rattle.settings.specs.Settings.{meets_from, meets, all_met}
 use Rattle.aiger.specs.declared.Gate.{Gate}
-use Rattle.networks.specs.declared.Circuit.{Circuit}
+use Rattle.networks.specs.declared.lent_gates.Circuit.{Circuit}
 use Rattle.networks.specs.Networks.{literal_value, gate_value, values_from, network_allows}
 use Rattle.rules.specs.Rules.{as_rule}
 use Rattle.rules.proofs.Sums.{all_met_rules, all_met_bars}

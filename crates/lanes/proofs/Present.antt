@@ -15,7 +15,7 @@ use Rattle.literals.proofs.Booleans.{or_false}
 use Rattle.search.specs.declared.Assignment.{Assignment}
 use Rattle.search.specs.Assignments.{taken, agreeing, decided, Clear, filled, undecided}
 use Rattle.search.proofs.Pointwise.{covers_in, covers_out}
-use Rattle.networks.specs.declared.Circuit.{Circuit}
+use Rattle.networks.specs.declared.lent_gates.Circuit.{Circuit}
 use Rattle.lanes.specs.Words.{all_lanes, pattern, input_word, input_words, circuit_good, good_word, FirstLane, Tried}
 use Rattle.lanes.proofs.Lanes.{every_lane, good_lane}
 

@@ -6,13 +6,12 @@ use Rattle.literals.specs.Literals.{has}
 use Rattle.literals.specs.declared.LiteralSet.{LiteralSet}
 use Rattle.settings.specs.Settings.{all_met, any_covers}
 use Rattle.aiger.specs.declared.Gate.{Gate}
-use Rattle.networks.specs.declared.Circuit.{Circuit}
+use Rattle.networks.specs.declared.lent_gates.Circuit.{Circuit}
 use Rattle.networks.specs.Circuits.{circuit_allows}
 use Rattle.search.specs.declared.Assignment.{Assignment}
-use Rattle.search.specs.declared.Found.TheVariants.{Conflict}
-use Rattle.search.specs.declared.leaps.Sight.TheVariants.{MetBy}
+use Rattle.search.specs.declared.Found.TheVariants.{Conflict, MetBy}
 use Rattle.search.specs.Assignments.{decided, undecided}
-use Rattle.search.specs.Search.{Says, Sees}
+use Rattle.search.specs.Search.{Says}
 use Rattle.rules.specs.Rules.{as_rule}
 
 -- the word with every lane
@@ -89,4 +88,4 @@ with_bit m k b = cond b (bit_or m (2 ^ k)) m
 -- a good setting that agrees with the assignment, or there is none
 abbrev pub Tried : ℕ → (List Bool → Bool) → Assignment → Option Assignment → Type 0
 Tried n good a None = Says n good a Conflict
-Tried n good a (Some b) = Sees n good a (MetBy b)
+Tried n good a (Some b) = Says n good a (MetBy b)

@@ -6,12 +6,12 @@ ghost use Rattle.tables.specs.Tables.{items};
 ghost use Rattle.literals.specs.Bits.{bit};
 ghost use Rattle.search.specs.Assignments.{undecided, filled};
 ghost use Rattle.rules.specs.Rules.{as_rule};
-ghost use Rattle.networks.specs.Circuits.{Small};
 ghost use Rattle.lanes.specs.Words.{all_lanes, pattern, input_word, next_rank, input_words, word_at, literal_word, gate_word, words_from, output_word, literals_word, met_word, all_met_word, good_word, FirstLane, with_bit, Tried, circuit_good};
 
 use aiger::Gate;
 use literals::{LiteralSet, has_bit};
 use networks::Circuit;
+use rules::rule_of;
 use search::Assignment;
 use tables::table::Table;
 
@@ -120,7 +120,6 @@ fn follow(words: &mut Table<u64, 2081>, gates: &[Gate])
 
 // The lanes in which the output is 1, from the words of the inputs.
 fn output_word(circuit: Circuit<'_>, inputs: &[u64]) -> u64
-    requires small { Small circuit }
     requires few { length inputs.now ≤ 32 }
     ensures lanes { result ≡ output_word circuit.entry.gates.now circuit.entry.output inputs.now }
 {
@@ -155,20 +154,6 @@ fn met_word(inputs: &[u64], rule: LiteralSet) -> u64
     met
 }
 
-// A set of literals as a rule; a bar as the rule of the opposite ones.
-fn rule_of(set: LiteralSet, as_bar: bool) -> LiteralSet
-    ensures rule { result ≡ as_rule as_bar set }
-{
-    if as_bar {
-        LiteralSet {
-            closed: set.opened,
-            opened: set.closed,
-        }
-    } else {
-        set
-    }
-}
-
 // The lanes in which every rule is met, or no bar covers.
 fn all_met_word(inputs: &[u64], sets: &[LiteralSet], as_bars: bool) -> u64
     ensures lanes { result ≡ all_met_word all_lanes (map (as_rule as_bars) sets.now) inputs.now }
@@ -182,7 +167,6 @@ fn all_met_word(inputs: &[u64], sets: &[LiteralSet], as_bars: bool) -> u64
 
 // The lanes in which the output is 1, every rule is met and no bar covers.
 fn good_word(circuit: Circuit<'_>, rules: &[LiteralSet], bars: &[LiteralSet], inputs: &[u64]) -> u64
-    requires small { Small circuit }
     requires few { length inputs.now ≤ 32 }
     ensures lanes { result ≡ good_word circuit.entry rules.now bars.now inputs.now }
 {
@@ -230,7 +214,6 @@ pub fn try_all(
     bars: &[LiteralSet],
     assignment: Assignment,
 ) -> Option<Assignment>
-    requires small { Small circuit }
     requires few { undecided circuit.inputs assignment ≤ 6 }
     ensures tried { Tried circuit.entry.inputs (circuit_good circuit.entry rules.now bars.now) assignment result }
 {

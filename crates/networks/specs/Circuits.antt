@@ -1,13 +1,8 @@
 -- A circuit: a network with its gates, inputs and output; and its values as a function of the variables.
-use Rattle.std.specs.Prelude.{◌≡◌, ℕ, ◌+◌, ◌/◌, ◌%◌, ◌<◌, ◌≤◌, Bool, false, cond, not, ◌&&◌, List, ◌∷◌, length, ◌==◌, nat_lt, slice_index_or}
+use Rattle.std.specs.Prelude.{◌≡◌, ℕ, ◌+◌, ◌/◌, ◌%◌, ◌<◌, Bool, false, cond, not, ◌&&◌, List, ◌∷◌, length, ◌==◌, nat_lt, slice_index_or}
 use Rattle.aiger.specs.declared.Gate.{Gate}
-use Rattle.networks.specs.declared.Circuit.{Circuit}
+use Rattle.networks.specs.declared.lent_gates.Circuit.{Circuit}
 use Rattle.networks.specs.Networks.{values_from, network_allows, no_gate}
-
--- at most 32 inputs and 2,048 gates
-pub record Small (c : Circuit) : Type 0 where
-  pub few_inputs : c.inputs ≤ 32
-  pub few_gates : length c.gates.now ≤ 2048
 
 -- the settings at which the output is 1
 abbrev pub circuit_allows : Circuit → List Bool → Bool

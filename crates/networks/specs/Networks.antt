@@ -1,5 +1,5 @@
 -- What a gate text allows. Variable 0 is false, then come the inputs, then one variable a gate.
-use Rattle.std.specs.Prelude.{◌≡◌, ℕ, suc, ◌+◌, ◌/◌, ◌%◌, ◌<◌, Bool, false, cond, not, ◌&&◌, List, [], ◌∷◌, ◌++◌, length, ◌==◌, slice_index_or}
+use Rattle.std.specs.Prelude.{◌≡◌, ℕ, suc, ◌+◌, ◌/◌, ◌%◌, ◌<◌, Bool, false, cond, not, ◌&&◌, List, [], ◌∷◌, ◌++◌, length, take, min, ◌==◌, slice_index_or}
 use Rattle.aiger.specs.declared.Gate.{Gate}
 use Rattle.aiger.specs.Aag.{Aag}
 use Rattle.aiger.specs.Grammar.{WellFormed}
@@ -20,6 +20,10 @@ values_from values (g ∷ gs) = values_from (values ++ gate_value values g ∷ [
 -- a network allows a setting of its inputs when its output is 1
 abbrev pub network_allows : List Gate → ℕ → List Bool → Bool
 network_allows gates output x = literal_value (values_from (false ∷ x) gates) output
+
+-- a network has at most 2,048 gates
+abbrev pub first_gates : List Gate → List Gate
+first_gates gates = take (min (length gates) 2048) gates
 
 abbrev pub no_gate : Gate
 no_gate = record { left = 0; right = 0 }

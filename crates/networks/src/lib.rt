@@ -1,38 +1,31 @@
 // What a network of gates computes, gate by gate.
 #![tactic(auto)]
 
-ghost use Rattle.std.specs.Prelude.{◌≡◌, ◌+◌, ◌≤◌, min, false, ◌∷◌, length, take, slice_index_or};
+ghost use Rattle.std.specs.Prelude.{◌≡◌, ◌+◌, ◌≤◌, min, false, ◌∷◌, length, slice_index_or};
 ghost use Rattle.tables.specs.Tables.{items};
 ghost use Rattle.settings.specs.Readings.{reading};
-ghost use Rattle.networks.specs.Networks.{literal_value, gate_value, values_from, network_allows, NetworkLaw};
-ghost use Rattle.networks.specs.Circuits.{Small, circuit_allows, readable};
+ghost use Rattle.networks.specs.Networks.{literal_value, gate_value, values_from, network_allows, first_gates, NetworkLaw};
+ghost use Rattle.networks.specs.Circuits.{readable};
 
 use aiger::Gate;
 use literals::has_bit;
 use settings::Setting;
 use tables::table::Table;
 
+mod lent_gates;
+
+pub use lent_gates::Circuit;
+
 // A network has at most 32 inputs and 2,048 gates, and variable 0, which is false.
 const MOST_INPUTS: usize = 32;
 
 const MOST_GATES: usize = 2_048;
 
-// A network with lent gates. Its inputs are the contacts.
-#[derive(Clone, Copy)]
-pub struct Circuit<'a> {
-    pub gates: &'a [Gate],
-    pub inputs: u8,
-    pub output: u16,
-}
-
-impl Circuit<'_> {
-    // Whether it allows a setting: its output is 1.
-    pub fn allows(self, setting: Setting) -> bool
-        requires small { Small self }
-        ensures output { result ≡ circuit_allows self.entry (reading self.entry.inputs setting) }
-    {
-        output_value(self.gates, self.inputs as usize, self.output, setting)
-    }
+// The records of a network: the first 2,048, if there are more.
+fn first_gates<'a>(gates: &'a [Gate]) -> &'a [Gate]
+    ensures first { result.now ≡ first_gates gates.now }
+{
+    &gates[0..gates.len().min(MOST_GATES)]
 }
 
 // A literal as it is read where only the first variables have values: that of a variable without one is a constant, since it reads as false.
@@ -46,16 +39,14 @@ pub fn readable(literal: u16, variables: usize) -> u16
     }
 }
 
+// The value of a variable; one without a value reads as false.
 fn variable_value(values: &[bool], variable: usize) -> bool
     ensures value { result ≡ slice_index_or values.now variable false }
 {
-    if variable < values.len() {
-        values[variable]
-    } else {
-        false
-    }
+    values.get(variable).copied().unwrap_or(false)
 }
 
+// The value of a literal.
 fn value_of(values: &[bool], literal: u16) -> bool
     ensures value { result ≡ literal_value values.now literal }
 {
@@ -63,6 +54,7 @@ fn value_of(values: &[bool], literal: u16) -> bool
     if literal % 2 == 1 { !value } else { value }
 }
 
+// The value of a gate.
 fn and_of(values: &[bool], gate: Gate) -> bool
     ensures value { result ≡ gate_value values.now gate }
 {
@@ -93,6 +85,7 @@ fn follow(values: &mut Table<bool, 2081>, gates: &[Gate])
     }
 }
 
+// The value of the output.
 fn output_value(gates: &[Gate], inputs: usize, output: u16, setting: Setting) -> bool
     requires inputs { inputs ≤ 32 }
     requires gates { length gates.now ≤ 2048 }
@@ -105,10 +98,9 @@ fn output_value(gates: &[Gate], inputs: usize, output: u16, setting: Setting) ->
 
 // Whether the network of the first 2,048 gates allows a setting of at most 32 inputs: its output is 1.
 pub fn allows(gates: &[Gate], inputs: usize, output: u16, setting: Setting) -> bool
-    ensures output { result ≡ network_allows (take (min (length gates.now) 2048) gates.now) output (reading (min inputs 32) setting) }
+    ensures output { result ≡ network_allows (first_gates gates.now) output (reading (min inputs 32) setting) }
 {
-    let count = gates.len().min(MOST_GATES);
-    output_value(&gates[0..count], inputs.min(MOST_INPUTS), output, setting)
+    output_value(first_gates(gates), inputs.min(MOST_INPUTS), output, setting)
 }
 
 // The values of all variables are those in which each gate is the AND of its sides, and there is no other way.

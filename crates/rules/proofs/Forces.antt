@@ -11,16 +11,16 @@ use Rattle.settings.specs.Settings.{meets, all_met}
 use Rattle.search.specs.declared.Assignment.{Assignment}
 use Rattle.search.specs.Assignments.{taken, agreeing, decided}
 use Rattle.search.proofs.Pointwise.{meets_in, meets_out, covers_out}
-use Rattle.rules.specs.declared.Scan.{Scan}
-use Rattle.rules.specs.declared.Scan.TheVariants.{Failed, Forced, Quiet}
+use Rattle.rules.specs.declared.Finding.{Finding}
+use Rattle.rules.specs.declared.Finding.TheVariants.{Failed, Forced}
 use Rattle.rules.specs.Rules.{restricted, met_mask, undecided_in, is_met, several, is_quiet, wanted_at, first_wanted, scanned, any_unmet}
 use Rattle.rules.proofs.Masks.{one_bit, has_restricted, met_bits, left_bits, none_met, is_met_at, several_at}
 
 -- what is found on n variables holds of every setting of these and more
-abbrev pub Tells : ℕ → List LiteralSet → Assignment → Scan → Type 0
-Tells n rs a Failed = (x : List Bool) → n ≤ length x → agreeing a x ≡ true → all_met rs (take n x) ≡ true → ⊥
-Tells n rs a (Forced k b) = (k < n) × (decided a k ≡ false) × ((x : List Bool) → n ≤ length x → agreeing a x ≡ true → all_met rs (take n x) ≡ true → get_or x k false ≡ b)
-Tells n rs a Quiet = ((k : ℕ) → k < n → decided a k ≡ true) → (x : List Bool) → n ≤ length x → agreeing a x ≡ true → all_met rs (take n x) ≡ true
+abbrev pub Tells : ℕ → List LiteralSet → Assignment → Option Finding → Type 0
+Tells n rs a (Some Failed) = (x : List Bool) → n ≤ length x → agreeing a x ≡ true → all_met rs (take n x) ≡ true → ⊥
+Tells n rs a (Some (Forced k b)) = (k < n) × (decided a k ≡ false) × ((x : List Bool) → n ≤ length x → agreeing a x ≡ true → all_met rs (take n x) ≡ true → get_or x k false ≡ b)
+Tells n rs a None = ((k : ℕ) → k < n → decided a k ≡ true) → (x : List Bool) → n ≤ length x → agreeing a x ≡ true → all_met rs (take n x) ≡ true
 
 -- ---- one variable of a rule that is not met
 
@@ -140,25 +140,25 @@ module _ (n : ℕ) (few : n ≤ 64) (r : LiteralSet) (a : Assignment) (x : List 
 -- ---- a list of rules
 
 module _ (n : ℕ) (few : n ≤ 64) (a : Assignment) where
-  tells_more : (r : LiteralSet) (rs : List LiteralSet) (s : Scan) → is_quiet (restricted n r) a ≡ true → Tells n rs a s → Tells n (r ∷ rs) a s
-  tells_more r rs Failed t h = λ x long fit met. h x long fit (and_parts (meets r (take n x)) _ met).1
-  tells_more r rs (Forced k b) t h = (h.0, h.1, λ x long fit met. h.2 x long fit (and_parts (meets r (take n x)) _ met).1)
-  tells_more r rs Quiet t h = λ all x long fit. and_from _ _ (quiet_meets n few r a x long fit t all) (h all x long fit)
+  tells_more : (r : LiteralSet) (rs : List LiteralSet) (s : Option Finding) → is_quiet (restricted n r) a ≡ true → Tells n rs a s → Tells n (r ∷ rs) a s
+  tells_more r rs (Some Failed) t h = λ x long fit met. h x long fit (and_parts (meets r (take n x)) _ met).1
+  tells_more r rs (Some (Forced k b)) t h = (h.0, h.1, λ x long fit met. h.2 x long fit (and_parts (meets r (take n x)) _ met).1)
+  tells_more r rs None t h = λ all x long fit. and_from _ _ (quiet_meets n few r a x long fit t all) (h all x long fit)
 
-  tells_here : (r : LiteralSet) (rs : List LiteralSet) (k m : ℕ) → k + m ≡ n → is_quiet (restricted n r) a ≡ false → ((j : ℕ) → j < k → wanted_at (restricted n r) a j ≡ None) → Tells n (r ∷ rs) a (first_wanted k m (restricted n r) a)
+  tells_here : (r : LiteralSet) (rs : List LiteralSet) (k m : ℕ) → k + m ≡ n → is_quiet (restricted n r) a ≡ false → ((j : ℕ) → j < k → wanted_at (restricted n r) a j ≡ None) → Tells n (r ∷ rs) a (Some (first_wanted k m (restricted n r) a))
   tells_here r rs k zero e t none = λ x long fit met. failed n few r a x long fit t (and_parts _ _ met).0 (λ j lt. none j (omega arith))
   tells_here r rs k (suc m) e t none = go (wanted_at (restricted n r) a k) refl (λ h. tells_here r rs (suc k) m (omega arith) t (below_suc h)) where
     below_suc : wanted_at (restricted n r) a k ≡ None → (j : ℕ) → j < suc k → wanted_at (restricted n r) a j ≡ None
     below_suc h j lt = ⊎_elim (λ same. ap (wanted_at (restricted n r) a) same ∙ h) (λ ne. none j (omega (arith, ne))) (cases_eq j k)
 
-    go : (o : Option Bool) → wanted_at (restricted n r) a k ≡ o → (wanted_at (restricted n r) a k ≡ None → Tells n (r ∷ rs) a (first_wanted (suc k) m (restricted n r) a)) → Tells n (r ∷ rs) a (elim o [ Some b ↦ Forced k b | None ↦ first_wanted (suc k) m (restricted n r) a ])
+    go : (o : Option Bool) → wanted_at (restricted n r) a k ≡ o → (wanted_at (restricted n r) a k ≡ None → Tells n (r ∷ rs) a (Some (first_wanted (suc k) m (restricted n r) a))) → Tells n (r ∷ rs) a (Some (elim o [ Some b ↦ Forced k b | None ↦ first_wanted (suc k) m (restricted n r) a ]))
     go (Some b) h later = (omega arith, (wants (restricted n r) a k b h).0, λ x long fit met. forced n few r a x long fit t (and_parts _ _ met).0 k b (omega arith) h)
     go None h later = later h
 
   pub tells_all : (rs : List LiteralSet) → Tells n rs a (scanned n rs a)
   tells_all [] = λ all x long fit. refl
   tells_all (r ∷ rs) = go (is_quiet (restricted n r) a) refl (tells_all rs) where
-    go : (b : Bool) → is_quiet (restricted n r) a ≡ b → Tells n rs a (scanned n rs a) → Tells n (r ∷ rs) a (cond b (scanned n rs a) (first_wanted 0 n (restricted n r) a))
+    go : (b : Bool) → is_quiet (restricted n r) a ≡ b → Tells n rs a (scanned n rs a) → Tells n (r ∷ rs) a (cond b (scanned n rs a) (Some (first_wanted 0 n (restricted n r) a)))
     go true t rest = tells_more r rs (scanned n rs a) t rest
     go false t rest = tells_here r rs 0 n (omega arith) t (λ j lt. absurd (omega arith))
 

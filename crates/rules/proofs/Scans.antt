@@ -6,7 +6,7 @@ use Rattle.literals.specs.Literals.{no_literals}
 use Rattle.literals.specs.declared.LiteralSet.{LiteralSet}
 use Rattle.literals.proofs.Booleans.{or_assoc}
 use Rattle.search.specs.declared.Assignment.{Assignment}
-use Rattle.rules.specs.declared.Scan.TheVariants.{Failed, Forced}
+use Rattle.rules.specs.declared.Finding.TheVariants.{Failed, Forced}
 use Rattle.search.specs.Assignments.{low_mask}
 use Rattle.rules.specs.Rules.{as_rule, masked, restricted, is_met, is_quiet, wanted_at, first_wanted, scanned, any_unmet}
 
@@ -35,11 +35,11 @@ module _ (n : ℕ) (a : Assignment) (bars : Bool) (ss : List LiteralSet) (i : �
       at_drop_more (λ ss. scanned n (map (as_rule bars) ss) a) ss i no_literals lt
       ∙ cond-true (is_quiet (restricted n (as_rule bars (get_or ss i no_literals))) a) _ _ (ap (λ r. is_quiet r a) (sym taken_so) ∙ h)
 
-  pub scan_here : is_quiet r a ≡ false → scanned n (map (as_rule bars) (drop i ss)) a ≡ first_wanted 0 n r a
+  pub scan_here : is_quiet r a ≡ false → scanned n (map (as_rule bars) (drop i ss)) a ≡ Some (first_wanted 0 n r a)
   scan_here h =
       at_drop_more (λ ss. scanned n (map (as_rule bars) ss) a) ss i no_literals lt
       ∙ cond-false (is_quiet (restricted n (as_rule bars (get_or ss i no_literals))) a) _ _ (ap (λ r. is_quiet r a) (sym taken_so) ∙ h)
-      ∙ ap (λ r. first_wanted 0 n r a) (sym taken_so)
+      ∙ ap (λ r. Some (first_wanted 0 n r a)) (sym taken_so)
 
   pub unmet_next : (t t' : Bool) → t' ≡ (t || not (is_met r a)) → (t || any_unmet n (map (as_rule bars) (drop i ss)) a) ≡ (t' || any_unmet n (map (as_rule bars) (drop (i + 1) ss)) a)
   unmet_next t t' e =

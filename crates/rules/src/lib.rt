@@ -2,35 +2,54 @@
 #![tactic(auto)]
 
 ghost use Rattle.std.specs.Prelude.{◌≡◌, Bool, true, false, not, ◌||◌, map};
-ghost use Rattle.rules.specs.Rules.{as_rule, masked, is_met, undecided_in, several, is_quiet, wanted_at, scanned, scanned_both, any_unmet, Choice};
+ghost use Rattle.rules.specs.Rules.{as_rule, masked, is_met, undecided_in, several, is_quiet, wanted_at, scanned, scanned_both, found_by, any_unmet, has_unmet, Choice};
 
 use literals::LiteralSet;
-use search::{Assignment, mask_below};
+use search::{Assignment, Found, mask_below};
+use std::cmp::Ordering;
 
-// What a look at rules for a forced literal found. A variable goes by its index, from 0.
+// What a rule says that forces a literal or has failed. A variable goes by its index, from 0.
 #[derive(Clone, Copy)]
-pub enum Scan {
-    // a rule has no literal met and none undecided
+pub enum Finding {
+    // the rule has no literal met and none undecided
     Failed,
-    // a rule has a single undecided literal and none met: the value that it wants
+    // the rule has a single undecided literal and none met: the value that it wants
     Forced { variable: u8, closed: bool },
-    Quiet,
 }
 
-// The rule of a set of literals, on the variables of a mask: those literals, or where the set is a bar the opposite ones.
-fn rule_of(set: LiteralSet, as_bar: bool, mask: u64) -> LiteralSet
-    ensures rule { result ≡ masked mask (as_rule as_bar set) }
+// What that says of an assignment, where every good setting meets the rule.
+impl From<Finding> for Found {
+    ghost from_gives = { λ f r. r ≡ found_by f };
+
+    fn from(finding: Finding) -> Self {
+        match finding {
+            Finding::Failed => Found::Conflict,
+            Finding::Forced { variable, closed } => Found::Forced { variable, closed },
+        }
+    }
+}
+
+// A set of literals as a rule; a bar as the rule of the opposite ones.
+pub fn rule_of(set: LiteralSet, as_bar: bool) -> LiteralSet
+    ensures rule { result ≡ as_rule as_bar set }
 {
     if as_bar {
         LiteralSet {
-            closed: set.opened & mask,
-            opened: set.closed & mask,
+            closed: set.opened,
+            opened: set.closed,
         }
     } else {
-        LiteralSet {
-            closed: set.closed & mask,
-            opened: set.opened & mask,
-        }
+        set
+    }
+}
+
+// The literals of a rule on the variables of a mask.
+fn masked(rule: LiteralSet, mask: u64) -> LiteralSet
+    ensures masked { result ≡ masked mask rule }
+{
+    LiteralSet {
+        closed: rule.closed & mask,
+        opened: rule.opened & mask,
     }
 }
 
@@ -87,24 +106,24 @@ pub fn find_forced(
     as_bars: bool,
     variables: u8,
     assignment: Assignment,
-) -> Scan
+) -> Option<Finding>
     ensures first { result ≡ scanned variables (map (as_rule as_bars) sets.now) assignment }
 {
     let mask = mask_below(variables);
     'look: {
         for set in sets {
-            let rule = rule_of(*set, as_bars, mask);
+            let rule = masked(rule_of(*set, as_bars), mask);
             if is_quiet(rule, assignment) {
                 continue;
             }
             for variable in 0..variables {
                 if let Some(closed) = wanted(rule, assignment, variable) {
-                    break 'look Scan::Forced { variable, closed };
+                    break 'look Some(Finding::Forced { variable, closed });
                 }
             }
-            break 'look Scan::Failed;
+            break 'look Some(Finding::Failed);
         }
-        Scan::Quiet
+        None
     }
 }
 
@@ -114,109 +133,116 @@ pub fn find_forced_in_both(
     bars: &[LiteralSet],
     variables: u8,
     assignment: Assignment,
-) -> Scan
+) -> Option<Finding>
     ensures first { result ≡ scanned_both variables rules.now bars.now assignment }
 {
-    match find_forced(rules, false, variables, assignment) {
-        Scan::Quiet => find_forced(bars, true, variables, assignment),
-        found => found,
-    }
+    find_forced(rules, false, variables, assignment).or_else(|| find_forced(
+        bars, true, variables, assignment,
+    ))
 }
 
-// How often each variable occurs in the shortest rules that are not met, by their undecided variables.
+// The shortest rules so far: how many undecided variables each has, and how often each variable is one of them.
 #[derive(Clone, Copy)]
-pub struct Tally {
-    unmet: bool,
-    shortest: u32,
+struct Shortest {
+    length: u32,
     counts: [u16; 64],
 }
 
-fn no_counts() -> [u16; 64] {
-    [0; 64]
-}
-
-fn count(counts: &mut [u16; 64], mask: u64) {
-    let mut left = mask;
-    while left != 0 {
-        let variable = left.trailing_zeros() as usize;
-        if variable < 64 {
-            counts[variable] = counts[variable].saturating_add(1);
-        }
-        left &= left - 1;
+impl Shortest {
+    // One rule, by the mask of its undecided variables.
+    fn of(mask: u64) -> Self {
+        let mut shortest = Shortest {
+            length: mask.count_ones(),
+            counts: [0; 64],
+        };
+        shortest.count(mask);
+        shortest
     }
-}
 
-fn highest(counts: &[u16; 64]) -> u8 {
-    let mut best = 0;
-    let mut most = 0;
-    for variable in 0..64u8 {
-        let occurrences = counts[variable as usize];
-        if occurrences > most {
-            most = occurrences;
-            best = variable;
+    // Counts in the variables of a mask.
+    fn count(&mut self, mask: u64) {
+        let mut left = mask;
+        while left != 0 {
+            if let Some(occurrences) = self.counts.get_mut(left.trailing_zeros() as usize) {
+                *occurrences = occurrences.saturating_add(1);
+            }
+            left &= left - 1;
         }
     }
-    best
+
+    // Counts in one rule more, if it is as short.
+    fn note(&mut self, mask: u64) {
+        match mask.count_ones().cmp(&self.length) {
+            Ordering::Less => *self = Shortest::of(mask),
+            Ordering::Equal => self.count(mask),
+            Ordering::Greater => (),
+        }
+    }
+
+    // The variable that occurs most; of several such, the first.
+    fn most_frequent(&self) -> u8 {
+        let mut best = 0;
+        let mut most = 0;
+        for (variable, occurrences) in (0..64u8).zip(self.counts.iter()) {
+            if *occurrences > most {
+                most = *occurrences;
+                best = variable;
+            }
+        }
+        best
+    }
 }
 
 // The first undecided variable.
 pub fn first_undecided(variables: u8, assignment: Assignment) -> Option<u8>
     ensures choice { Choice variables assignment true result }
 {
-    for variable in 0..variables {
-        if !assignment.has_decided(variable) {
-            return Some(variable);
-        }
-    }
-    None
+    (0..variables).find(|variable| !assignment.has_decided(*variable))
+}
+
+// The shortest rules that are not met, if there is one.
+#[derive(Clone, Copy)]
+pub struct Tally {
+    shortest: Option<Shortest>,
 }
 
 impl Tally {
+    // No rule is counted in.
     pub fn empty() -> Self
-        ensures none_unmet { result.unmet ≡ false }
+        ensures none_unmet { has_unmet result ≡ false }
     {
-        Tally {
-            unmet: false,
-            shortest: 65,
-            counts: no_counts(),
-        }
+        Tally { shortest: None }
     }
 
+    // Counts in one rule, unless it is met.
     fn note(&mut self, rule: LiteralSet, assignment: Assignment)
-        ensures unmet { self.new.unmet ≡ (self.old.unmet || not (is_met rule assignment)) }
+        ensures unmet { has_unmet self.new ≡ (has_unmet self.old || not (is_met rule assignment)) }
     {
-        if !is_met(rule, assignment) {
-            self.unmet = true;
-            let left = undecided_in(rule, assignment);
-            let length = left.count_ones();
-            if length < self.shortest {
-                self.shortest = length;
-                self.counts = no_counts();
-            }
-            if length == self.shortest {
-                count(&mut self.counts, left);
-            }
+        if is_met(rule, assignment) {
+            return;
+        }
+        let left = undecided_in(rule, assignment);
+        match &mut self.shortest {
+            Some(shortest) => shortest.note(left),
+            None => self.shortest = Some(Shortest::of(left)),
         }
     }
 
     // Counts in more rules, or bars as rules, each taken on the first variables.
     pub fn add(&mut self, sets: &[LiteralSet], as_bars: bool, variables: u8, assignment: Assignment)
-        ensures unmet { self.new.unmet ≡ (self.old.unmet || any_unmet variables (map (as_rule as_bars) sets.now) assignment) }
+        ensures unmet { has_unmet self.new ≡ (has_unmet self.old || any_unmet variables (map (as_rule as_bars) sets.now) assignment) }
     {
         let mask = mask_below(variables);
         for set in sets {
-            self.note(rule_of(*set, as_bars, mask), assignment);
+            self.note(masked(rule_of(*set, as_bars), mask), assignment);
         }
     }
 
     // An undecided variable to try, most often the one that occurs most; none where every rule is met, or all is decided.
     pub fn choose(&self, variables: u8, assignment: Assignment) -> Option<u8>
-        ensures choice { Choice variables assignment self.now.unmet result }
+        ensures choice { Choice variables assignment (has_unmet self.now) result }
     {
-        if !self.unmet {
-            return None;
-        }
-        let variable = highest(&self.counts);
+        let variable = self.shortest?.most_frequent();
         if variable < variables && !assignment.has_decided(variable) {
             Some(variable)
         } else {

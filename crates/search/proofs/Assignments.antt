@@ -11,7 +11,7 @@ use Rattle.literals.proofs.Bits.{bit_of_and, bit_more, bit_zero, bit_some, bit_b
 use Rattle.literals.proofs.Booleans.{and_true}
 use Rattle.settings.specs.Readings.{reading}
 use Rattle.search.specs.declared.Assignment.{Assignment}
-use Rattle.search.specs.Assignments.{taken, agreeing, decided, both, Clear, low_mask, clashing, put, with_value, filled, low_half, same, count_below, undecided}
+use Rattle.search.specs.Assignments.{taken, agreeing, decided, both, Clear, low_mask, clashing, put, with_value, filled, low_half, count_below, undecided}
 use Rattle.search.proofs.Pointwise.{covers_in, covers_out}
 
 pub with_put : (a : Assignment) (k : ℕ) (b : Bool) → k < 64 → with_value a k b ≡ put a k b
@@ -168,7 +168,7 @@ pub reading_low : (n : ℕ) (a : Assignment) → n ≤ 32 → reading n (low_hal
 reading_low n a few =
     sym (fill_by_all (λ k. bit (low_half a).closed k) (filled n a) n false (length_filled n a) (λ k lt. get_or_filled n a k lt ∙ sym (low_bit a k (omega arith))))
 
--- ---- the same assignment
+-- ---- two assignments that `!=` tells apart
 
-pub same_not : (a b : Assignment) → same a b ≡ false → a ≡ b → ⊥
-same_not a b h e = both_ways _ h (and_from _ _ (eq-eqb a.closed b.closed (ap (λ a. a.closed) e)) (eq-eqb a.opened b.opened (ap (λ a. a.opened) e)))
+pub differ : (a b : Assignment) → not (eqb a.closed b.closed && eqb a.opened b.opened) ≡ true → a ≡ b → ⊥
+differ a b h e = both_ways _ (not-true _ h) (and_from _ _ (eq-eqb a.closed b.closed (ap (λ a. a.closed) e)) (eq-eqb a.opened b.opened (ap (λ a. a.opened) e)))

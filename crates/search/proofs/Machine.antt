@@ -2,11 +2,10 @@
 use Rattle.std.proofs.Common.{◌≡◌, ℕ, zero, suc, ◌+◌, ◌-◌, ◌<◌, ◌≤◌, Bool, true, false, not, ◌&&◌, ◌⊎◌, List, length, get_or, set, Some, None, sym, refl, ap, ◌∙◌, subst, ap₂, inl, inr, ⊎_elim, arith, get_or-set_other, get_or-set_same}
 use Rattle.std.proofs.lemmas.Bool.{and_from, and_parts, cases_eq, cases_Bool}
 use Rattle.search.specs.declared.Assignment.{Assignment}
-use Rattle.search.specs.declared.Found.TheVariants.{Conflict, Forced, Met, Split}
+use Rattle.search.specs.declared.Found.TheVariants.{Conflict, Forced, Met, MetBy, Split}
 use Rattle.search.specs.Assignments.{agreeing, decided, Clear, clashing, put, filled, undecided}
 use Rattle.search.specs.declared.Branches.{Branches}
-use Rattle.search.specs.declared.leaps.Sight.TheVariants.{MetBy}
-use Rattle.search.specs.Search.{Narrows, Says, Sees, Answer, branches}
+use Rattle.search.specs.Search.{Narrows, Says, Answer, branches}
 use Rattle.search.proofs.Assignments.{with_put, agreeing_put, agreeing_less, clear_put, count_le, undecided_put, length_filled, agreeing_own, clash_none, clashing_some, clashing_none}
 use Rattle.laws.proofs.Least.{none_from}
 
@@ -107,7 +106,7 @@ module _ (n : ℕ) (good : List Bool → Bool) (start : Assignment) where
     pub met : Says n good current Met → Answer n good start (Some current)
     met s = and_from _ _ (s h.here.clear) (h.here.more (filled n current) (length_filled n current) (agreeing_own n current h.here.clear))
 
-    pub met_by : (b : Assignment) → Sees n good current (MetBy b) → Answer n good start (Some b)
+    pub met_by : (b : Assignment) → Says n good current (MetBy b) → Answer n good start (Some b)
     met_by b s = let p = and_parts (good (filled n b)) _ (s h.here.clear) in and_from _ _ p.0 (h.here.more (filled n b) (length_filled n b) p.1)
 
     pub narrows : (b : Assignment) → Narrows n good current b → Underway n good start b pending d

@@ -51,10 +51,6 @@ filled n a = map (λ k. bit a.closed k) (range_with_len 0 n)
 abbrev pub low_half : Assignment → Setting
 low_half a = record { closed = bit_and a.closed 0xffff_ffff }
 
--- two assignments decide the same
-abbrev pub same : Assignment → Assignment → Bool
-same a b = a.closed == b.closed && a.opened == b.opened
-
 -- how many of the first n variables pass a test, and how many are undecided
 abbrev pub count_below : ℕ → (ℕ → Bool) → ℕ
 count_below zero p = 0

@@ -3,9 +3,7 @@ use Rattle.std.specs.Prelude.{◌≡◌, ℕ, suc, ◌<◌, Bool, true, false, �
 use Rattle.settings.specs.Least.{some}
 use Rattle.search.specs.declared.Assignment.{Assignment}
 use Rattle.search.specs.declared.Found.{Found}
-use Rattle.search.specs.declared.Found.TheVariants.{Conflict, Forced, Narrowed, Met, Split}
-use Rattle.search.specs.declared.leaps.Sight.{Sight}
-use Rattle.search.specs.declared.leaps.Sight.TheVariants.{Plain, MetBy}
+use Rattle.search.specs.declared.Found.TheVariants.{Conflict, Forced, Narrowed, Met, MetBy, Split}
 use Rattle.search.specs.declared.State.{State}
 use Rattle.search.specs.declared.State.TheVariants.{Free, Tried}
 use Rattle.search.specs.declared.Branches.{Branches}
@@ -18,17 +16,14 @@ pub record Narrows (n : ℕ) (good : List Bool → Bool) (a b : Assignment) : Ty
   pub keeps : (x : List Bool) → length x ≡ n → good x ≡ true → agreeing a x ≡ true → agreeing b x ≡ true
   pub fewer : undecided n b < undecided n a
 
+-- what a look finds at an assignment is so
 abbrev pub Says : ℕ → (List Bool → Bool) → Assignment → Found → Type 0
 Says n good a Conflict = (x : List Bool) → length x ≡ n → good x ≡ true → agreeing a x ≢ true
 Says n good a (Forced k b) = (k < n) × (decided a k ≡ false) × ((x : List Bool) → length x ≡ n → good x ≡ true → agreeing a x ≡ true → slice_index_or x k false ≡ b)
 Says n good a (Narrowed b) = Narrows n good a b
 Says n good a Met = Clear n a → good (filled n a) ≡ true
+Says n good a (MetBy b) = Clear n a → (good (filled n b) && agreeing a (filled n b)) ≡ true
 Says n good a (Split k) = (k < n) × (decided a k ≡ false)
-
--- a look may also see a good setting further off
-abbrev pub Sees : ℕ → (List Bool → Bool) → Assignment → Sight → Type 0
-Sees n good a (Plain f) = Says n good a f
-Sees n good a (MetBy b) = Clear n a → (good (filled n b) && agreeing a (filled n b)) ≡ true
 
 -- no exactly where no good setting agrees with the start, or one that does
 abbrev pub Answer : ℕ → (List Bool → Bool) → Assignment → Option Assignment → Type 0

@@ -2,17 +2,14 @@
 #![tactic(auto)]
 
 ghost use Rattle.std.specs.Prelude.{◌≡◌, ℕ, ◌<◌, ◌≤◌, Bool, List, length};
-ghost use Rattle.search.specs.Assignments.{decided, with_value, low_mask, clashing, from_set, low_half, same};
+ghost use Rattle.search.specs.Assignments.{decided, with_value, low_mask, clashing, from_set, low_half};
 ghost use Rattle.search.specs.Search.{depth, branches, Says, Answer};
 
-use leaps::{Steps, find_leaping};
 use literals::{LiteralSet, has_bit};
 use settings::Setting;
 
-pub mod leaps;
-
 // What is decided so far: variable k + 1 closed where bit k of `closed` is set, and open where bit k of `opened` is.
-#[derive(Clone, Copy)]
+#[derive(Clone, Copy, PartialEq, Eq)]
 pub struct Assignment {
     pub closed: u64,
     pub opened: u64,
@@ -29,17 +26,31 @@ pub fn mask_below(variables: u8) -> u64
     }
 }
 
-impl Assignment {
-    // What a set of literals decides.
-    pub fn of(literals: LiteralSet) -> Self
-        ensures same { result ≡ from_set literals }
-    {
+// What a set of literals decides.
+impl From<LiteralSet> for Assignment {
+    ghost from_gives = { λ s a. a ≡ from_set s };
+
+    fn from(literals: LiteralSet) -> Self {
         Assignment {
             closed: literals.closed,
             opened: literals.opened,
         }
     }
+}
 
+// The setting of the first 32 variables, with those open that are not decided closed.
+impl From<Assignment> for Setting {
+    ghost from_gives = { λ a s. s ≡ low_half a };
+
+    fn from(assignment: Assignment) -> Self {
+        Setting {
+            closed: (assignment.closed & 0xffff_ffff) as u32,
+        }
+    }
+}
+
+impl Assignment {
+    // Whether a variable is decided.
     pub fn has_decided(self, variable: u8) -> bool
         ensures decided { result ≡ decided self variable }
     {
@@ -65,21 +76,6 @@ impl Assignment {
         }
     }
 
-    // The setting of the first 32 variables, with those open that are not decided closed.
-    pub fn setting(self) -> Setting
-        ensures setting { result ≡ low_half self }
-    {
-        Setting {
-            closed: (self.closed & 0xffff_ffff) as u32,
-        }
-    }
-
-    pub fn is_same(self, other: Self) -> bool
-        ensures same { result ≡ same self other }
-    {
-        self.closed == other.closed && self.opened == other.opened
-    }
-
     // Whether one of the first variables is decided both ways.
     fn clashes(self, variables: u8) -> bool
         ensures clashing { result ≡ clashing variables self }
@@ -99,6 +95,8 @@ pub enum Found {
     Narrowed(Assignment),
     // the assignment, with the rest open, is a good setting
     Met,
+    // this assignment, with the rest open, is a good setting, and agrees with the one that was looked at
+    MetBy(Assignment),
     // nothing is forced: an undecided variable to try
     Split(u8),
 }
@@ -111,18 +109,15 @@ pub trait Look {
     // the good settings, as a test on settings of all variables
     ghost good: { Self → List Bool → Bool };
 
-    // what the calls need
-    ghost ordered: { Self → Type 0 };
-
-    ghost few: { (s : Self) → ordered s → size s ≤ 64 };
+    // a mask has 64 variables
+    ghost few: { (s : Self) → size s ≤ 64 };
 
     // The number of variables.
     fn variables(&self) -> u8
-        requires ordered { ordered self.now }
         ensures count { result ≡ size self.now };
 
+    // What is found at an assignment.
     fn look(&self, assignment: Assignment) -> Found
-        requires ordered { ordered self.now }
         ensures says { Says (size self.now) (good self.now) assignment result };
 }
 
@@ -180,8 +175,36 @@ fn filled_with(assignment: Assignment) -> [Assignment; 64]
 
 // A good setting that agrees with what is decided at the start, as an assignment whose rest is open; none exactly where there is none.
 pub fn find<L: Look>(look: &L, start: Assignment) -> Option<Assignment>
-    requires ordered { L.Look.ordered look.now }
-    ensures answer { Answer (L.Look.size look.now) (L.Look.good look.now) start result }
+    ensures answer { Answer (L.size look.now) (L.good look.now) start result }
 {
-    find_leaping(&Steps { look }, start)
+    if start.clashes(look.variables()) {
+        return None;
+    }
+    let mut pending = filled_with(start);
+    let mut state = State::Free;
+    let mut current = start;
+    'machine: loop {
+        let found = look.look(current);
+        match (state, found) {
+            (_, Found::Met) => return Some(current),
+            (_, Found::MetBy(good)) => return Some(good),
+            (_, Found::Narrowed(narrower)) => current = narrower,
+            (_, Found::Forced { variable, closed }) => current = current.with(variable, closed),
+            (State::Free, Found::Conflict) => return None,
+            (State::Tried(last), Found::Conflict) => {
+                current = pending[last];
+                state = State::with_pending(last);
+            }
+            (_, Found::Split(variable)) => {
+                let count = state.pending();
+                let Branches {
+                    first,
+                    pending: second,
+                } = branch(current, variable);
+                pending[count] = second;
+                current = first;
+                state = State::Tried(count);
+            }
+        }
+    }
 }

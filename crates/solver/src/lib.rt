@@ -8,6 +8,10 @@ ghost use Rattle.solver.specs.Meaning.{meaning_from, Asked, add_fault, bar_fault
 use faults::SolverFault;
 use settings::Setting;
 
+mod count;
+
+pub use count::ContactCount;
+
 // A solver's meaning has four parts: the number of contacts, from 1 to 32, a base set of settings, a list of added rules and a list of bars.
 // A rule or a bar in it is the set of its literals: lists of the same literals are one rule or bar, and each accepted call still counts.
 // A bar covers the settings that agree with all its literals.

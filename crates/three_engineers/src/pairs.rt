@@ -5,9 +5,9 @@ use anyhow::anyhow;
 use clauses::ClauseSolver;
 use clauses::counts::VariableCounts;
 use gates::GateSolver;
-use gates::counts::InputCount;
 use literals::LiteralSet;
 use sheets::Sheet;
+use solver::ContactCount;
 use std::alloc::Global;
 use witnesses::WitnessCache;
 
@@ -87,8 +87,10 @@ pub fn gate_pair(heap: Global, cached: bool) -> anyhow::Result<String> {
     ) else {
         return Err(anyhow!("a text was refused"));
     };
-    let (Ok(make_count), Ok(break_count)) = (InputCount::new(CONTACTS), InputCount::new(CONTACTS))
-    else {
+    let (Ok(make_count), Ok(break_count)) = (
+        ContactCount::new(CONTACTS),
+        ContactCount::new(CONTACTS),
+    ) else {
         return Err(anyhow!("a text was refused"));
     };
     let make = GateSolver::new(

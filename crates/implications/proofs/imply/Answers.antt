@@ -11,7 +11,7 @@ returns-then-is_contradiction c = record {
   implied = λ x long ok fit.
       let k = c.args.circuit in
       let start : Holds (computed k.gates.now x) c.demand.result c.demand.new.values =
-      start_right k c.requires.small c.args.assignment x long ok fit c.first_values-values.result c.demand.new.values c.demand.result c.readable-output.result c.readable-output.ensures.literal c.first_values-values.ensures.length c.demand.ensures.demanded c.first_values-values.ensures.right in
+      start_right k c.args.assignment x long ok fit c.first_values-values.result c.demand.new.values c.demand.result c.readable-output.result c.readable-output.ensures.literal c.first_values-values.ensures.length c.demand.ensures.demanded c.first_values-values.ensures.right in
       refuted (computed k.gates.now x) c.demand.result c.demand.new.values (sym c.is_contradiction.ensures.contradiction ∙ c.if-is_contradiction.true) start;
 }
 
@@ -21,7 +21,7 @@ returns-then-is_contradiction-2 c = record {
       let k = c.args.circuit in
       let V = computed k.gates.now x in
       let start : Holds V c.demand.result c.demand.new.values =
-      start_right k c.requires.small c.args.assignment x long ok fit c.first_values-values.result c.demand.new.values c.demand.result c.readable-output.result c.readable-output.ensures.literal c.first_values-values.ensures.length c.demand.ensures.demanded c.first_values-values.ensures.right in
+      start_right k c.args.assignment x long ok fit c.first_values-values.result c.demand.new.values c.demand.result c.readable-output.result c.readable-output.ensures.literal c.first_values-values.ensures.length c.demand.ensures.demanded c.first_values-values.ensures.right in
       refuted V c.propagate.result c.propagate.new.values (sym c.is_contradiction-2.ensures.contradiction ∙ c.if-is_contradiction-2.true)
       (c.propagate.ensures.right V (computed_obeys k.gates.now x k.inputs long) (holds_sound V c.demand.result c.demand.new.values start));
 }
@@ -32,7 +32,7 @@ returns c = record {
       let k = c.args.circuit in
       let V = computed k.gates.now x in
       let start : Holds V c.demand.result c.demand.new.values =
-      start_right k c.requires.small c.args.assignment x long ok fit c.first_values-values.result c.demand.new.values c.demand.result c.readable-output.result c.readable-output.ensures.literal c.first_values-values.ensures.length c.demand.ensures.demanded c.first_values-values.ensures.right in
+      start_right k c.args.assignment x long ok fit c.first_values-values.result c.demand.new.values c.demand.result c.readable-output.result c.readable-output.ensures.literal c.first_values-values.ensures.length c.demand.ensures.demanded c.first_values-values.ensures.right in
       holds_sound V c.propagate.result c.propagate.new.values
       (c.propagate.ensures.right V (computed_obeys k.gates.now x k.inputs long) (holds_sound V c.demand.result c.demand.new.values start));
 }

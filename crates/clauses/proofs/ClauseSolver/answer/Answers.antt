@@ -6,22 +6,23 @@ use Rattle.clauses.specs.Clauses.{clause_variables, clause_good, clause_meaning}
 use Rattle.clauses.proofs.Answered.{answered_none, answered_some}
 use Rattle.clauses.proofs.ClauseSolver.answer.Goals as goal
 
-pub returns-in-Some : goal.returns-in-Some
-returns-in-Some c =
+pub returns-in_err-found : goal.returns-in_err-found
+returns-in_err-found c =
     let s = c.args.self.now in
     let ls = c.args.literals.now in
-    let found = c.in-Some.found in
     record {
-      answer = subst (λ x. Answers (clause_meaning s) ls (Some x)) (sym c.setting.ensures.setting)
-          (answered_some s c.requires.ordered ls c.requires.named found
-          (subst (λ a. Answer (clause_variables s) (clause_good s) a (Some found)) (c.of.ensures.same ∙ ap from_set c.from.ensures) c.in-Some.ensures.answer));
+      answer = subst (Answers (clause_meaning s) ls) (sym c.from_residual.ensures)
+          (answered_none s ls c.requires.named
+          (subst (λ a. Answer (clause_variables s) (clause_good s) a None) (c.into.ensures ∙ ap from_set c.from.ensures) c.in_err-found.ensures.answer));
     }
 
-pub returns-in-None : goal.returns-in-None
-returns-in-None c =
+pub returns : goal.returns
+returns c =
     let s = c.args.self.now in
     let ls = c.args.literals.now in
+    let found = c.in_ok-found.found in
     record {
-      answer = answered_none s c.requires.ordered ls c.requires.named
-          (subst (λ a. Answer (clause_variables s) (clause_good s) a None) (c.of.ensures.same ∙ ap from_set c.from.ensures) c.in-None.ensures.answer);
+      answer = subst (λ x. Answers (clause_meaning s) ls (Some x)) (sym c.into-2.ensures)
+          (answered_some s ls c.requires.named found
+          (subst (λ a. Answer (clause_variables s) (clause_good s) a (Some found)) (c.into.ensures ∙ ap from_set c.from.ensures) c.in_ok-found.ensures.answer));
     }

@@ -8,9 +8,9 @@ use Rattle.gates.proofs.GateSolver.decide.Goals as goal
 pub returns-then-stands : goal.returns-then-stands
 returns-then-stands c =
     let s = c.args.self.now in
-    record { says = stands_met s c.requires.ordered c.args.assignment (ap (λ x. gate_good s (reading (gate_contacts s) x)) (sym c.setting.ensures.setting) ∙ sym c.if-stands.ensures.standing) }
+    record { says = stands_met s c.args.assignment (ap (λ x. gate_good s (reading (gate_contacts s) x)) (sym c.into.ensures) ∙ sym c.if-stands.ensures.standing) }
 
 pub returns-in-None : goal.returns-in-None
 returns-in-None c =
     let s = c.args.self.now in
-    record { says = fails_none s c.requires.ordered c.args.assignment (ap (λ x. gate_good s (reading (gate_contacts s) x)) (sym c.setting.ensures.setting) ∙ sym c.if-stands.ensures.standing) (subst (Choice (gate_contacts s) c.args.assignment true) c.in-None.is c.requires.choice refl) }
+    record { says = fails_none s c.args.assignment (ap (λ x. gate_good s (reading (gate_contacts s) x)) (sym c.into.ensures) ∙ sym c.if-stands.ensures.standing) (subst (Choice (gate_contacts s) c.args.assignment true) c.in-None.is c.requires.choice refl) }

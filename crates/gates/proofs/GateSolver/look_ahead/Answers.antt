@@ -1,8 +1,11 @@
-use Rattle.gates.proofs.Looks.{scan_failed, scan_forced}
+use Rattle.std.proofs.Common.{sym, subst}
+use Rattle.search.specs.Search.{Says}
+use Rattle.gates.specs.Gates.{gate_contacts, gate_good}
+use Rattle.gates.proofs.Looks.{scan_says}
 use Rattle.gates.proofs.GateSolver.look_ahead.Goals as goal
 
-pub returns-in-Failed : goal.returns-in-Failed
-returns-in-Failed c = record { says = scan_failed c.args.self.now c.requires.ordered c.args.assignment c.in-Failed.ensures.first }
-
-pub returns-in-Forced : goal.returns-in-Forced
-returns-in-Forced c = record { says = scan_forced c.args.self.now c.requires.ordered c.args.assignment c.in-Forced.variable c.in-Forced.closed c.in-Forced.ensures.first }
+pub returns-in-Some : goal.returns-in-Some
+returns-in-Some c =
+    let s = c.args.self.now in
+    let a = c.args.assignment in
+    record { says = subst (Says (gate_contacts s) (gate_good s) a) (sym c.into.ensures) (scan_says s a c.in-Some.finding c.in-Some.ensures.first) }

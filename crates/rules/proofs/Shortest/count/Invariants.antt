@@ -1,4 +1,4 @@
-use Rattle.rules.proofs.count.Given as goal
+use Rattle.rules.proofs.Shortest.count.Given as goal
 
 abbrev pub decreases-loop-left : goal.decreases-loop-left
 decreases-loop-left l = l.left
