@@ -1,16 +1,12 @@
 -- A solver over a plain list of allowed settings.
-use Rattle.std.specs.Prelude.{◌≡◌, ℕ, Bool, true, false, ◌&&◌, ◌||◌, List, [], ◌∷◌, ℤ, Ok, Err, Result}
+use Rattle.std.specs.Prelude.{ℕ, Bool, true, false, ◌&&◌, ◌||◌, List, [], ◌∷◌, ℤ}
 use Rattle.std.specs.Bool.{beq}
-use Rattle.faults.specs.declared.SheetFault.{SheetFault}
-use Rattle.faults.specs.declared.SheetFault.TheVariants.{WrongContacts}
 use Rattle.settings.specs.declared.Setting.{Setting}
 use Rattle.settings.specs.Settings.{fits}
 use Rattle.settings.specs.Readings.{reading}
 use Rattle.additions.specs.declared.Additions.{Additions}
 use Rattle.additions.specs.Additions.{passes}
 use Rattle.solver.specs.Meaning.{Meaning}
-use Rattle.enumerated.specs.declared.count.ContactCount.{ContactCount}
-use Rattle.enumerated.specs.Range.{InRange}
 
 abbrev pub same_setting : List Bool → List Bool → Bool
 same_setting [] [] = true
@@ -26,11 +22,6 @@ listed n (s ∷ ss) x = same_setting (reading n s) x || listed n ss x
 -- a setting passes what was added, and agrees with all the literals
 abbrev pub passes_with : Additions → List ℤ → List Bool → Bool
 passes_with a ls x = passes a x && fits ls x
-
--- the number of contacts that was asked for; or it is out of range
-abbrev pub Counted : ℕ → Result ContactCount SheetFault → Type 0
-Counted n (Ok c) = c.contacts ≡ n
-Counted n (Err f) = (InRange n → ⊥) × (f ≡ WrongContacts)
 
 -- the meaning of a solver to which nothing was added
 abbrev pub plain_meaning : ℕ → List Setting → Meaning

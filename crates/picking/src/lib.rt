@@ -9,22 +9,9 @@ ghost use Rattle.solver.specs.Over.{meaning_of};
 ghost use Rattle.queries.specs.Queries.{possible_with};
 ghost use Rattle.picking.specs.Picking.{shared_front, picked_under, picked};
 
-use queries::earliest;
+use queries::{earliest, witness};
 use solver::Solver;
 use tables::table::Table;
-
-// Whether some standing setting agrees with all the literals.
-fn is_possible<S: Solver>(solver: &mut S, literals: &[i8]) -> bool
-    requires ordered { S.Solver.ordered solver.old }
-    ensures possible { result ≡ possible_with (meaning_of S.Solver solver.old) literals.now }
-    ensures meaning_kept { meaning_of S.Solver solver.new ≡ meaning_of S.Solver solver.old }
-    ensures ordered { S.Solver.ordered solver.new }
-{
-    match solver.ask(literals) {
-        Ok(found) => found.is_some(),
-        Err(_) => false,
-    }
-}
 
 // A front with one literal more.
 fn with_last(front: &Table<i8, 32>, literal: i8) -> Table<i8, 32>
@@ -39,15 +26,13 @@ fn with_last(front: &Table<i8, 32>, literal: i8) -> Table<i8, 32>
 
 // Places a literal last where some standing setting agrees with it and with all of the front, and tells whether one does.
 fn extend_front<S: Solver>(solver: &mut S, front: &mut Table<i8, 32>, literal: i8) -> bool
-    requires ordered { S.Solver.ordered solver.old }
     requires room { length (items front.old) < 32 }
     ensures possible { result ≡ possible_with (meaning_of S.Solver solver.old) (items front.old ++ literal ∷ []) }
     ensures placed { items front.new ≡ (if possible_with (meaning_of S.Solver solver.old) (items front.old ++ literal ∷ []) then items front.old ++ literal ∷ [] else items front.old) }
     ensures meaning_kept { meaning_of S.Solver solver.new ≡ meaning_of S.Solver solver.old }
-    ensures ordered { S.Solver.ordered solver.new }
 {
     let longer = with_last(front, literal);
-    let possible = is_possible(solver, longer.as_slice());
+    let possible = witness(solver, longer.as_slice()).is_some();
     if possible {
         *front = longer;
     }
@@ -56,10 +41,8 @@ fn extend_front<S: Solver>(solver: &mut S, front: &mut Table<i8, 32>, literal: i
 
 // As many literals from the front of a list as some standing setting agrees with all of.
 fn shared_front<S: Solver>(solver: &mut S, near: &Table<i8, 32>) -> Table<i8, 32>
-    requires ordered { S.Solver.ordered solver.old }
     ensures shared { items result ≡ shared_front (meaning_of S.Solver solver.old) [] (items near.now) }
     ensures meaning_kept { meaning_of S.Solver solver.new ≡ meaning_of S.Solver solver.old }
-    ensures ordered { S.Solver.ordered solver.new }
 {
     let mut front = Table::new(0);
     for literal in near.as_slice() {
@@ -72,10 +55,8 @@ fn shared_front<S: Solver>(solver: &mut S, near: &Table<i8, 32>) -> Table<i8, 32
 
 // The literals of the earliest standing setting that agrees with a front; none where there is none, or a literal names no contact.
 fn pick_under<S: Solver>(solver: &mut S, front: &Table<i8, 32>) -> Option<Table<i8, 32>>
-    requires ordered { S.Solver.ordered solver.old }
     ensures earliest { option_map items result ≡ picked_under (meaning_of S.Solver solver.old) (items front.now) }
     ensures meaning_kept { meaning_of S.Solver solver.new ≡ meaning_of S.Solver solver.old }
-    ensures ordered { S.Solver.ordered solver.new }
 {
     match earliest(solver, front) {
         Ok(found) => found,
@@ -85,10 +66,8 @@ fn pick_under<S: Solver>(solver: &mut S, front: &Table<i8, 32>) -> Option<Table<
 
 // The literals of the earliest of the standing settings that share the longest front with the given literals.
 pub fn pick<S: Solver>(solver: &mut S, near: &Table<i8, 32>) -> Option<Table<i8, 32>>
-    requires ordered { S.Solver.ordered solver.old }
     ensures earliest { option_map items result ≡ picked (meaning_of S.Solver solver.old) (items near.now) }
     ensures meaning_kept { meaning_of S.Solver solver.new ≡ meaning_of S.Solver solver.old }
-    ensures ordered { S.Solver.ordered solver.new }
 {
     let front = shared_front(solver, near);
     pick_under(solver, &front)

@@ -11,21 +11,9 @@ ghost use Rattle.solver.specs.Over.{meaning_of};
 ghost use Rattle.queries.specs.Queries.{possible_with, Shown, Ready, opened_next, least_literals, why_literals, answered, listed};
 
 use faults::SolverFault;
-use settings::Setting;
+use settings::{Setting, literal_of};
 use solver::Solver;
 use tables::table::Table;
-
-// The literal that wants contact k + 1 closed, or open.
-fn literal_of(k: usize, closed: bool) -> i8
-    requires contact { k < 32 }
-    ensures wanted { result ≡ literal k closed }
-{
-    if closed {
-        (k + 1) as i8
-    } else {
-        -((k + 1) as i8)
-    }
-}
 
 // Two lists of literals, one behind the other.
 fn joined(front: &[i8], back: &[i8]) -> Table<i8, 65>
@@ -39,12 +27,10 @@ fn joined(front: &[i8], back: &[i8]) -> Table<i8, 65>
 }
 
 // A standing setting that agrees with all the literals; there is none where a literal names no contact.
-fn witness<S: Solver>(solver: &mut S, literals: &[i8]) -> Option<Setting>
-    requires ordered { S.Solver.ordered solver.old }
+pub fn witness<S: Solver>(solver: &mut S, literals: &[i8]) -> Option<Setting>
     ensures found { is_some result ≡ possible_with (meaning_of S.Solver solver.old) literals.now }
     ensures shown { Shown (meaning_of S.Solver solver.old) literals.now result }
     ensures meaning_kept { meaning_of S.Solver solver.new ≡ meaning_of S.Solver solver.old }
-    ensures ordered { S.Solver.ordered solver.new }
 {
     match solver.ask(literals) {
         Ok(found) => found,
@@ -54,11 +40,9 @@ fn witness<S: Solver>(solver: &mut S, literals: &[i8]) -> Option<Setting>
 
 // Keeps a literal where those kept and those behind it are not enough without it.
 fn keep_next<S: Solver>(solver: &mut S, kept: &mut Table<i8, 32>, literal: i8, later: &[i8])
-    requires ordered { S.Solver.ordered solver.old }
     requires room { length (items kept.old) + length later.now < 32 }
     ensures next { items kept.new ≡ (if possible_with (meaning_of S.Solver solver.old) (items kept.old ++ later.now) then items kept.old ++ literal ∷ [] else items kept.old) }
     ensures meaning_kept { meaning_of S.Solver solver.new ≡ meaning_of S.Solver solver.old }
-    ensures ordered { S.Solver.ordered solver.new }
 {
     let asked = joined(kept.as_slice(), later);
     if witness(solver, asked.as_slice()).is_some() {
@@ -68,16 +52,14 @@ fn keep_next<S: Solver>(solver: &mut S, kept: &mut Table<i8, 32>, literal: i8, l
 
 // The held literals without those that can be left out, from the first to the last, where the rest is still enough.
 fn trimmed<S: Solver>(solver: &mut S, held: &Table<i8, 32>) -> Table<i8, 32>
-    requires ordered { S.Solver.ordered solver.old }
     requires named { literal_fault (meaning_of S.Solver solver.old) (items held.now) ≡ None }
     ensures left { items result ≡ trim (enough (meaning_of S.Solver solver.old).contacts (stands (meaning_of S.Solver solver.old))) [] (items held.now) }
     ensures meaning_kept { meaning_of S.Solver solver.new ≡ meaning_of S.Solver solver.old }
-    ensures ordered { S.Solver.ordered solver.new }
 {
     let mut choice = Table::new(0);
     let all = held.as_slice();
     for (k, literal) in all.iter().enumerate() {
-        keep_next(solver, &mut choice, *literal, &all[k + 1..all.len()]);
+        keep_next(solver, &mut choice, *literal, &all[k + 1..]);
     }
     choice
 }
@@ -87,10 +69,8 @@ pub fn reason<S: Solver>(
     solver: &mut S,
     held: &Table<i8, 32>,
 ) -> Result<Option<Table<i8, 32>>, SolverFault>
-    requires ordered { S.Solver.ordered solver.old }
     ensures answer { listed result ≡ answered (literal_fault (meaning_of S.Solver solver.old) (items held.now)) (why_literals (meaning_of S.Solver solver.old) (items held.now)) }
     ensures meaning_kept { meaning_of S.Solver solver.new ≡ meaning_of S.Solver solver.old }
-    ensures ordered { S.Solver.ordered solver.new }
 {
     match solver.ask(held.as_slice())? {
         Some(_) => Ok(None),
@@ -117,14 +97,12 @@ fn next_open<S: Solver>(
     last: Setting,
     k: usize,
 ) -> Option<Setting>
-    requires ordered { S.Solver.ordered solver.old }
     requires few { length held.now ≤ 32 }
     requires contact { k < 32 }
     requires ready { Ready (meaning_of S.Solver solver.old) (opened_next held.now (items placed.now) k) last k }
     ensures found { is_some result ≡ possible_with (meaning_of S.Solver solver.old) (opened_next held.now (items placed.now) k) }
     ensures shown { Shown (meaning_of S.Solver solver.old) (opened_next held.now (items placed.now) k) result }
     ensures meaning_kept { meaning_of S.Solver solver.new ≡ meaning_of S.Solver solver.old }
-    ensures ordered { S.Solver.ordered solver.new }
 {
     if last.agrees(solver.contacts(), literal_of(k, false)) {
         return Some(last);
@@ -141,7 +119,6 @@ fn place_next<S: Solver>(
     last: Setting,
     k: usize,
 ) -> Option<Setting>
-    requires ordered { S.Solver.ordered solver.old }
     requires few { length held.now ≤ 32 }
     requires contact { k < 32 }
     requires room { length (items placed.old) < 32 }
@@ -150,7 +127,6 @@ fn place_next<S: Solver>(
     ensures shown { Shown (meaning_of S.Solver solver.old) (opened_next held.now (items placed.old) k) result }
     ensures next { items placed.new ≡ items placed.old ++ literal k (not (is_some result)) ∷ [] }
     ensures meaning_kept { meaning_of S.Solver solver.new ≡ meaning_of S.Solver solver.old }
-    ensures ordered { S.Solver.ordered solver.new }
 {
     let found = next_open(solver, held, placed, last, k);
     let _ = placed.push(literal_of(k, found.is_none()));
@@ -159,12 +135,10 @@ fn place_next<S: Solver>(
 
 // The literals of the earliest standing setting that agrees with the held ones, where one such setting is known.
 fn decided<S: Solver>(solver: &mut S, held: &Table<i8, 32>, first: Setting) -> Table<i8, 32>
-    requires ordered { S.Solver.ordered solver.old }
     requires named { literal_fault (meaning_of S.Solver solver.old) (items held.now) ≡ None }
     requires shown { stands_with (meaning_of S.Solver solver.old) (items held.now) (reading (meaning_of S.Solver solver.old).contacts first) ≡ true }
     ensures earliest { Some (items result) ≡ least_literals (meaning_of S.Solver solver.old) (items held.now) }
     ensures meaning_kept { meaning_of S.Solver solver.new ≡ meaning_of S.Solver solver.old }
-    ensures ordered { S.Solver.ordered solver.new }
 {
     let n = solver.contacts();
     let all = held.as_slice();
@@ -181,10 +155,8 @@ pub fn earliest<S: Solver>(
     solver: &mut S,
     held: &Table<i8, 32>,
 ) -> Result<Option<Table<i8, 32>>, SolverFault>
-    requires ordered { S.Solver.ordered solver.old }
     ensures answer { listed result ≡ answered (literal_fault (meaning_of S.Solver solver.old) (items held.now)) (least_literals (meaning_of S.Solver solver.old) (items held.now)) }
     ensures meaning_kept { meaning_of S.Solver solver.new ≡ meaning_of S.Solver solver.old }
-    ensures ordered { S.Solver.ordered solver.new }
 {
     match solver.ask(held.as_slice())? {
         None => Ok(None),

@@ -22,6 +22,11 @@ pub fn write_refusal(out: &mut String, refusal: Refusal) -> anyhow::Result<()> {
     Ok(())
 }
 
+// The first entries of a buffer, as many as were written.
+fn front<T>(buffer: &[T], count: usize) -> &[T] {
+    &buffer[..count.min(buffer.len())]
+}
+
 // A word, the first literals of a buffer, and the end of the line.
 fn write_literals(out: &mut String, word: &str, literals: &[i8]) -> anyhow::Result<()> {
     write!(out, "{word}")?;
@@ -61,25 +66,15 @@ pub fn write_outcome(out: &mut String, outcome: &Outcome) -> anyhow::Result<()> 
         Outcome::Done => writeln!(out, "ok")?,
         Outcome::Issued(label, number) => writeln!(out, "ticket {label} {number}")?,
         Outcome::Least(count, buffer) => {
-            write_literals(
-                out,
-                "least",
-                &buffer.as_slice()[0..(*count).min(buffer.len())],
-            )?
+            write_literals(out, "least", front(buffer.as_slice(), *count))?
         }
         Outcome::Why(count, buffer) => {
-            write_literals(
-                out,
-                "why",
-                &buffer.as_slice()[0..(*count).min(buffer.len())],
-            )?
+            write_literals(out, "why", front(buffer.as_slice(), *count))?
         }
         Outcome::Terms(n, count, buffer) => {
-            write_terms(out, *n, &buffer.as_slice()[0..(*count).min(buffer.len())])?
+            write_terms(out, *n, front(buffer.as_slice(), *count))?
         }
-        Outcome::Written(count, buffer) => {
-            write_text(out, &buffer.as_slice()[0..(*count).min(buffer.len())])?
-        }
+        Outcome::Written(count, buffer) => { write_text(out, front(buffer.as_slice(), *count))? }
         Outcome::Refused(refusal) => {
             write_refusal(out, *refusal)?;
             writeln!(out, "")?

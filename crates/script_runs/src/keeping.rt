@@ -1,44 +1,60 @@
-// The tickets of both sheets.
+// A session of a script on a pair of sheets: where it begins and where it ends.
 ghost use Rattle.std.specs.Prelude.{◌≡◌, [], IfOk};
-ghost use Rattle.sheets.specs.Sheets.{sheet_meaning, InOrder};
+ghost use Rattle.sheets.specs.Sheets.{sheet_meaning};
 ghost use Rattle.tickets.specs.Tickets.{listed, none_held};
-ghost use Rattle.script_runs.specs.Keeping.{Keeps};
+ghost use Rattle.script_runs.specs.Fresh.{Fresh};
 
-use super::Kept;
+use crate::PairWithTickets;
+use session::Pair;
 use sheets::Sheet;
 use solver::Solver;
 use std::alloc::{AllocError, Global};
 use tickets::Tickets;
 
-impl Kept {
-    pub fn none(heap: Global) -> Result<Self, AllocError>
-        ensures none { IfOk result (λ k. (listed k.make ≡ []) × (listed k.brk ≡ [])) }
-    {
-        let make = Tickets::none(heap)?;
-        match Tickets::none(heap) {
-            Ok(brk) => Ok(Kept { make, brk }),
-            Err(error) => {
-                make.end();
-                Err(error)
-            }
+// Room for the tickets of both sheets.
+fn no_tickets(heap: Global) -> Result<(Tickets, Tickets), AllocError>
+    ensures none { IfOk result (λ t. (listed t.0 ≡ []) × (listed t.1 ≡ [])) }
+{
+    let make = Tickets::none(heap)?;
+    match Tickets::none(heap) {
+        Ok(brk) => Ok((make, brk)),
+        Err(error) => {
+            make.end();
+            Err(error)
         }
     }
+}
 
-    // Gives all tickets back to the sheets that they came from.
-    pub fn give_all_back<M: Solver, B: Solver>(self, make: &mut Sheet<M>, brk: &mut Sheet<B>)
-        requires make_in_order { InOrder M.Solver make.old }
-        requires break_in_order { InOrder B.Solver brk.old }
-        requires keeps { Keeps (sheet_meaning M.Solver make.old) (sheet_meaning B.Solver brk.old) self }
-        ensures make_after { sheet_meaning M.Solver make.new ≡ none_held (sheet_meaning M.Solver make.old) }
-        ensures break_after { sheet_meaning B.Solver brk.new ≡ none_held (sheet_meaning B.Solver brk.old) }
-        ensures make_in_order { InOrder M.Solver make.new }
-        ensures break_in_order { InOrder B.Solver brk.new }
+impl<M: Solver, B: Solver> PairWithTickets<M, B> {
+    // A pair on which nothing is held, so that no ticket is out.
+    pub fn new(heap: Global, pair: Pair<M, B>) -> Result<Self, AllocError>
+    where
+        M: Drop,
+        B: Drop,
+        requires make_fresh { Fresh 1 (sheet_meaning M.Solver pair.make) }
+        requires break_fresh { Fresh 2 (sheet_meaning B.Solver pair.brk) }
+        ensures same_pair { IfOk result (λ held. held.pair ≡ pair) }
     {
-        let Kept {
-            make: make_tickets,
-            brk: break_tickets,
+        let (make_tickets, break_tickets) = no_tickets(heap)?;
+        Ok(PairWithTickets {
+            pair,
+            make_tickets,
+            break_tickets,
+        })
+    }
+
+    // Gives all tickets back to the sheets that they came from, which refuse none of them.
+    pub fn end(self) -> Pair<M, B>
+        ensures make_after { sheet_meaning M.Solver result.make ≡ none_held (sheet_meaning M.Solver self.pair.make) }
+        ensures break_after { sheet_meaning B.Solver result.brk ≡ none_held (sheet_meaning B.Solver self.pair.brk) }
+    {
+        let PairWithTickets {
+            mut pair,
+            make_tickets,
+            break_tickets,
         } = self;
-        make_tickets.give_all_back(make);
-        break_tickets.give_all_back(brk);
+        make_tickets.give_all_back(&mut pair.make);
+        break_tickets.give_all_back(&mut pair.brk);
+        pair
     }
 }

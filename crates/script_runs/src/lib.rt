@@ -4,14 +4,14 @@
 use faults::Refusal;
 use literals::LiteralSet;
 use settings::Term;
-use tickets::Tickets;
 
+mod held;
 mod keeping;
 mod lines;
 mod turns;
 mod write;
 
-pub use lines::obey;
+pub use held::PairWithTickets;
 pub use write::write_rules;
 
 // What comes of a line. A buffer comes with what was written at its front.
@@ -33,12 +33,6 @@ pub enum Outcome {
     // how many bytes were written
     Written(usize, Vec<u8>),
     Refused(Refusal),
-}
-
-// The tickets that ASSUME gave out and RELEASE has not accepted back, of both sheets.
-pub struct Kept {
-    make: Tickets,
-    brk: Tickets,
 }
 
 // What a sheet's solver was loaded with: the number of variables and the rules of a clause text, or the gates of a gate text.

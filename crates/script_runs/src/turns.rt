@@ -1,38 +1,32 @@
 // Requests put to the pair.
 ghost use Rattle.std.specs.Prelude.{◌≡◌, ◌<◌, length};
-ghost use Rattle.sheets.specs.Sheets.{sheet_meaning, InOrder, held_at};
+ghost use Rattle.sheets.specs.Sheets.{sheet_meaning, held_at};
 ghost use Rattle.session.specs.Requests.{says};
 ghost use Rattle.session.specs.Served.{request_reply, make_after, break_after};
 ghost use Rattle.script_runs.specs.Outcomes.{outcome_form, shown, Ticketless};
 ghost use Rattle.script_runs.specs.Obeyed.{sided, assume_reply, make_assumed, break_assumed, release_reply, make_released, break_released, ticket_at, kept_after, Labelled, ticket_of, release_outcome};
-ghost use Rattle.script_runs.specs.Keeping.{Keeps};
 ghost use Rattle.tickets.specs.Tickets.{listed, tickets_of};
 
-use super::{Kept, Outcome};
+use super::Outcome;
 use model::Side;
+use session::Pair;
 use session::request::{Answer, Request, Response, Returned, SheetCall};
-use session::take_turn;
-use sheets::{Sheet, Ticket};
+use sheets::Ticket;
 use solver::Solver;
 use tickets::Tickets;
 
 // Puts a request that brings no ticket and asks for none. The sheet that is asked has so many contacts.
 pub fn ask<M: Solver, B: Solver>(
-    make: &mut Sheet<M>,
-    brk: &mut Sheet<B>,
+    pair: &mut Pair<M, B>,
     contacts: usize,
     request: Request,
 ) -> Outcome
-    requires make_in_order { InOrder M.Solver make.old }
-    requires break_in_order { InOrder B.Solver brk.old }
     requires ticketless { Ticketless request }
-    ensures answer { outcome_form result ≡ shown contacts (request_reply (sheet_meaning M.Solver make.old) (sheet_meaning B.Solver brk.old) request) }
-    ensures make_after { sheet_meaning M.Solver make.new ≡ make_after (sheet_meaning M.Solver make.old) request }
-    ensures break_after { sheet_meaning B.Solver brk.new ≡ break_after (sheet_meaning B.Solver brk.old) request }
-    ensures make_in_order { InOrder M.Solver make.new }
-    ensures break_in_order { InOrder B.Solver brk.new }
+    ensures answer { outcome_form result ≡ shown contacts (request_reply (sheet_meaning M.Solver pair.old.make) (sheet_meaning B.Solver pair.old.brk) request) }
+    ensures make_after { sheet_meaning M.Solver pair.new.make ≡ make_after (sheet_meaning M.Solver pair.old.make) request }
+    ensures break_after { sheet_meaning B.Solver pair.new.brk ≡ break_after (sheet_meaning B.Solver pair.old.brk) request }
 {
-    match take_turn(make, brk, request) {
+    match pair.take_turn(request) {
         Response::Accepted(answer) => match answer {
             Answer::Done => Outcome::Done,
             Answer::Least(buffer) => Outcome::Least(contacts, buffer),
@@ -50,42 +44,28 @@ pub fn ask<M: Solver, B: Solver>(
 }
 
 // ASSUME, put to one sheet of the pair.
-fn put_assume<M: Solver, B: Solver>(
-    make: &mut Sheet<M>,
-    brk: &mut Sheet<B>,
-    side: Side,
-    literal: i8,
-) -> Response
-    requires make_in_order { InOrder M.Solver make.old }
-    requires break_in_order { InOrder B.Solver brk.old }
-    ensures answer { says result ≡ assume_reply (sided side (sheet_meaning M.Solver make.old) (sheet_meaning B.Solver brk.old)) literal }
-    ensures make_after { sheet_meaning M.Solver make.new ≡ make_assumed side (sheet_meaning M.Solver make.old) literal }
-    ensures break_after { sheet_meaning B.Solver brk.new ≡ break_assumed side (sheet_meaning B.Solver brk.old) literal }
-    ensures make_in_order { InOrder M.Solver make.new }
-    ensures break_in_order { InOrder B.Solver brk.new }
+fn put_assume<M: Solver, B: Solver>(pair: &mut Pair<M, B>, side: Side, literal: i8) -> Response
+    ensures answer { says result ≡ assume_reply (sided side (sheet_meaning M.Solver pair.old.make) (sheet_meaning B.Solver pair.old.brk)) literal }
+    ensures make_after { sheet_meaning M.Solver pair.new.make ≡ make_assumed side (sheet_meaning M.Solver pair.old.make) literal }
+    ensures break_after { sheet_meaning B.Solver pair.new.brk ≡ break_assumed side (sheet_meaning B.Solver pair.old.brk) literal }
 {
-    take_turn(make, brk, Request::Sheet(side, SheetCall::Assume(literal)))
+    pair.take_turn(Request::Sheet(side, SheetCall::Assume(literal)))
 }
 
 // ASSUME on one sheet, whose ticket is kept behind the others that the sheet gave out.
 pub fn assume<M: Solver, B: Solver>(
-    make: &mut Sheet<M>,
-    brk: &mut Sheet<B>,
+    pair: &mut Pair<M, B>,
     tickets: &mut Tickets,
     side: Side,
     literal: i8,
 ) -> Outcome
-    requires make_in_order { InOrder M.Solver make.old }
-    requires break_in_order { InOrder B.Solver brk.old }
-    requires its_own { listed tickets.old ≡ tickets_of (sided side (sheet_meaning M.Solver make.old) (sheet_meaning B.Solver brk.old)) }
-    ensures answer { outcome_form result ≡ shown 0 (assume_reply (sided side (sheet_meaning M.Solver make.old) (sheet_meaning B.Solver brk.old)) literal) }
-    ensures make_after { sheet_meaning M.Solver make.new ≡ make_assumed side (sheet_meaning M.Solver make.old) literal }
-    ensures break_after { sheet_meaning B.Solver brk.new ≡ break_assumed side (sheet_meaning B.Solver brk.old) literal }
-    ensures its_own { listed tickets.new ≡ tickets_of (sided side (sheet_meaning M.Solver make.new) (sheet_meaning B.Solver brk.new)) }
-    ensures make_in_order { InOrder M.Solver make.new }
-    ensures break_in_order { InOrder B.Solver brk.new }
+    requires its_own { listed tickets.old ≡ tickets_of (sided side (sheet_meaning M.Solver pair.old.make) (sheet_meaning B.Solver pair.old.brk)) }
+    ensures answer { outcome_form result ≡ shown 0 (assume_reply (sided side (sheet_meaning M.Solver pair.old.make) (sheet_meaning B.Solver pair.old.brk)) literal) }
+    ensures make_after { sheet_meaning M.Solver pair.new.make ≡ make_assumed side (sheet_meaning M.Solver pair.old.make) literal }
+    ensures break_after { sheet_meaning B.Solver pair.new.brk ≡ break_assumed side (sheet_meaning B.Solver pair.old.brk) literal }
+    ensures its_own { listed tickets.new ≡ tickets_of (sided side (sheet_meaning M.Solver pair.new.make) (sheet_meaning B.Solver pair.new.brk)) }
 {
-    match put_assume(make, brk, side, literal) {
+    match put_assume(pair, side, literal) {
         Response::Accepted(answer) => match answer {
             Answer::Issued(ticket) => {
                 let outcome = Outcome::Issued(ticket.label(), ticket.number());
@@ -102,43 +82,29 @@ pub fn assume<M: Solver, B: Solver>(
 }
 
 // RELEASE, put to one sheet of the pair.
-fn put_release<M: Solver, B: Solver>(
-    make: &mut Sheet<M>,
-    brk: &mut Sheet<B>,
-    side: Side,
-    ticket: Ticket,
-) -> Response
-    requires make_in_order { InOrder M.Solver make.old }
-    requires break_in_order { InOrder B.Solver brk.old }
-    ensures answer { says result ≡ release_reply (sided side (sheet_meaning M.Solver make.old) (sheet_meaning B.Solver brk.old)) ticket }
-    ensures make_after { sheet_meaning M.Solver make.new ≡ make_released side (sheet_meaning M.Solver make.old) ticket }
-    ensures break_after { sheet_meaning B.Solver brk.new ≡ break_released side (sheet_meaning B.Solver brk.old) ticket }
-    ensures make_in_order { InOrder M.Solver make.new }
-    ensures break_in_order { InOrder B.Solver brk.new }
+fn put_release<M: Solver, B: Solver>(pair: &mut Pair<M, B>, side: Side, ticket: Ticket) -> Response
+    ensures answer { says result ≡ release_reply (sided side (sheet_meaning M.Solver pair.old.make) (sheet_meaning B.Solver pair.old.brk)) ticket }
+    ensures make_after { sheet_meaning M.Solver pair.new.make ≡ make_released side (sheet_meaning M.Solver pair.old.make) ticket }
+    ensures break_after { sheet_meaning B.Solver pair.new.brk ≡ break_released side (sheet_meaning B.Solver pair.old.brk) ticket }
 {
-    take_turn(make, brk, Request::Sheet(side, SheetCall::Release(ticket)))
+    pair.take_turn(Request::Sheet(side, SheetCall::Release(ticket)))
 }
 
 // Brings the ticket at a place to one sheet of the pair. Where the sheet refuses it, it goes back to its place.
 fn bring<M: Solver, B: Solver>(
-    make: &mut Sheet<M>,
-    brk: &mut Sheet<B>,
+    pair: &mut Pair<M, B>,
     tickets: &mut Tickets,
     side: Side,
     place: usize,
 ) -> Outcome
-    requires make_in_order { InOrder M.Solver make.old }
-    requires break_in_order { InOrder B.Solver brk.old }
     requires there { place < length (listed tickets.old) }
-    ensures answer { outcome_form result ≡ shown 0 (release_reply (sided side (sheet_meaning M.Solver make.old) (sheet_meaning B.Solver brk.old)) (ticket_at (listed tickets.old) place)) }
-    ensures make_after { sheet_meaning M.Solver make.new ≡ make_released side (sheet_meaning M.Solver make.old) (ticket_at (listed tickets.old) place) }
-    ensures break_after { sheet_meaning B.Solver brk.new ≡ break_released side (sheet_meaning B.Solver brk.old) (ticket_at (listed tickets.old) place) }
-    ensures tickets { listed tickets.new ≡ kept_after (held_at (sided side (sheet_meaning M.Solver make.old) (sheet_meaning B.Solver brk.old)) (ticket_at (listed tickets.old) place)) (listed tickets.old) place }
-    ensures make_in_order { InOrder M.Solver make.new }
-    ensures break_in_order { InOrder B.Solver brk.new }
+    ensures answer { outcome_form result ≡ shown 0 (release_reply (sided side (sheet_meaning M.Solver pair.old.make) (sheet_meaning B.Solver pair.old.brk)) (ticket_at (listed tickets.old) place)) }
+    ensures make_after { sheet_meaning M.Solver pair.new.make ≡ make_released side (sheet_meaning M.Solver pair.old.make) (ticket_at (listed tickets.old) place) }
+    ensures break_after { sheet_meaning B.Solver pair.new.brk ≡ break_released side (sheet_meaning B.Solver pair.old.brk) (ticket_at (listed tickets.old) place) }
+    ensures tickets { listed tickets.new ≡ kept_after (held_at (sided side (sheet_meaning M.Solver pair.old.make) (sheet_meaning B.Solver pair.old.brk)) (ticket_at (listed tickets.old) place)) (listed tickets.old) place }
 {
     let ticket = tickets.take(place);
-    match put_release(make, brk, side, ticket) {
+    match put_release(pair, side, ticket) {
         Response::Accepted(answer) => match answer {
             Answer::Done => Outcome::Done,
             _ => unreachable(),
@@ -155,27 +121,22 @@ fn bring<M: Solver, B: Solver>(
 
 // Releases the ticket with a number of those that the owner gave out, if there is one, on one sheet of the pair.
 pub fn release_from<M: Solver, B: Solver>(
-    make: &mut Sheet<M>,
-    brk: &mut Sheet<B>,
+    pair: &mut Pair<M, B>,
     tickets: &mut Tickets,
     owner: Side,
     side: Side,
     number: u16,
 ) -> Outcome
-    requires make_in_order { InOrder M.Solver make.old }
-    requires break_in_order { InOrder B.Solver brk.old }
-    requires labelled { Labelled (sheet_meaning M.Solver make.old) (sheet_meaning B.Solver brk.old) }
-    requires its_own { listed tickets.old ≡ tickets_of (sided owner (sheet_meaning M.Solver make.old) (sheet_meaning B.Solver brk.old)) }
-    ensures answer { outcome_form result ≡ release_outcome side (sheet_meaning M.Solver make.old) (sheet_meaning B.Solver brk.old) (ticket_of owner number) }
-    ensures make_after { sheet_meaning M.Solver make.new ≡ make_released side (sheet_meaning M.Solver make.old) (ticket_of owner number) }
-    ensures break_after { sheet_meaning B.Solver brk.new ≡ break_released side (sheet_meaning B.Solver brk.old) (ticket_of owner number) }
-    ensures its_own { listed tickets.new ≡ tickets_of (sided owner (sheet_meaning M.Solver make.new) (sheet_meaning B.Solver brk.new)) }
-    ensures others_own { tickets_of (sided owner (sheet_meaning B.Solver brk.new) (sheet_meaning M.Solver make.new)) ≡ tickets_of (sided owner (sheet_meaning B.Solver brk.old) (sheet_meaning M.Solver make.old)) }
-    ensures make_in_order { InOrder M.Solver make.new }
-    ensures break_in_order { InOrder B.Solver brk.new }
+    requires labelled { Labelled (sheet_meaning M.Solver pair.old.make) (sheet_meaning B.Solver pair.old.brk) }
+    requires its_own { listed tickets.old ≡ tickets_of (sided owner (sheet_meaning M.Solver pair.old.make) (sheet_meaning B.Solver pair.old.brk)) }
+    ensures answer { outcome_form result ≡ release_outcome side (sheet_meaning M.Solver pair.old.make) (sheet_meaning B.Solver pair.old.brk) (ticket_of owner number) }
+    ensures make_after { sheet_meaning M.Solver pair.new.make ≡ make_released side (sheet_meaning M.Solver pair.old.make) (ticket_of owner number) }
+    ensures break_after { sheet_meaning B.Solver pair.new.brk ≡ break_released side (sheet_meaning B.Solver pair.old.brk) (ticket_of owner number) }
+    ensures its_own { listed tickets.new ≡ tickets_of (sided owner (sheet_meaning M.Solver pair.new.make) (sheet_meaning B.Solver pair.new.brk)) }
+    ensures others_own { tickets_of (sided owner (sheet_meaning B.Solver pair.new.brk) (sheet_meaning M.Solver pair.new.make)) ≡ tickets_of (sided owner (sheet_meaning B.Solver pair.old.brk) (sheet_meaning M.Solver pair.old.make)) }
 {
     match tickets.find(number) {
         None => Outcome::NoTicket,
-        Some(place) => bring(make, brk, tickets, side, place),
+        Some(place) => bring(pair, tickets, side, place),
     }
 }

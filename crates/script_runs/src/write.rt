@@ -18,13 +18,6 @@ fn write_into(vars: usize, rules: &[LiteralSet], buffer: &mut Vec<u8>) -> Result
     write(vars, rules, buffer.as_mut_slice())
 }
 
-// A buffer of bytes, all 0.
-fn bytes(heap: Global, length: u16) -> Result<Vec<u8>, AllocError>
-    ensures zeros { IfOk result (λ v. v.items ≡ replicate length 0) }
-{
-    vec![in heap; 0; length as usize]
-}
-
 // Writes the loaded rules into a buffer of so many bytes; there are none to write of a gate text.
 pub fn write_rules(heap: Global, source: Source, length: u16) -> Result<Outcome, AllocError>
     ensures answer { IfOk result (λ o. outcome_form o ≡ write_outcome source.entry (replicate length 0)) }
@@ -32,7 +25,7 @@ pub fn write_rules(heap: Global, source: Source, length: u16) -> Result<Outcome,
     match source {
         Source::Gates => Ok(Outcome::Bad),
         Source::Clauses(vars, rules) => {
-            let mut buffer = bytes(heap, length)?;
+            let mut buffer = vec![in heap; 0; length as usize]?;
             match write_into(vars, rules, &mut buffer) {
                 Ok(size) => Ok(Outcome::Written(size, buffer)),
                 Err(fault) => Ok(Outcome::Refused(fault.refusal())),

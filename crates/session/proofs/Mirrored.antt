@@ -29,8 +29,7 @@ use Rattle.tables.specs.Tables.{without}
 use Rattle.sheets.specs.declared.Held.{Held}
 use Rattle.sheets.specs.declared.Ticket.{Ticket}
 use Rattle.sheets.specs.Sheets.{SheetMeaning, held_literals, rule_answer, ruled, after_rule, assume_fault, assume_answer, after_assume, numbered_at, held_at, release_answer, after_release}
-use Rattle.sheets.specs.Answers.{least_answer, why_answer}
-use Rattle.sheets.specs.Entries.{entries_over}
+use Rattle.sheets.specs.Answers.{over, least_answer, why_answer}
 use Rattle.model.specs.declared.Side.{Side}
 use Rattle.model.specs.declared.Side.TheVariants.{Make, Break}
 use Rattle.model.specs.Model.{SheetModel, PairModel, on, put_on, allows, earliest, reason, with_rule, with_held}
@@ -158,7 +157,7 @@ short_or_long a b = by (leb b a) refl where
   by false e = lt-ltb a b (leb-false b a e)
 
 -- what is written has room in a buffer that is long enough
-pub over_front : {A : Type 0} (ls out : List A) (n : ℕ) → length ls ≤ n → leb n (length out) ≡ true → entries_over ls out ≡ at_front ls out
+pub over_front : {A : Type 0} (ls out : List A) (n : ℕ) → length ls ≤ n → leb n (length out) ≡ true → over ls out ≡ at_front ls out
 over_front ls out n few long = let fits : length ls ≤ length out = omega (arith, leb-true n (length out) long) in cond-true _ _ _ (le-leb _ _ fits)
 
 module _ (p : PairModel) (side : Side) (out : List ℤ) (few : (on p side).contacts ≤ 32) (given : RulesNamed (on p side)) where

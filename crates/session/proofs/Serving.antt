@@ -1,8 +1,7 @@
--- A list of requests that is served from the first to the last; those that wait are kept the next one last.
-use Rattle.std.proofs.Common.{◌≡◌, List, [], ◌∷◌, ◌++◌, reverse, length, Ok, Err, vec_items, Result, Vec, sym, refl, ap, ◌∙◌, subst, append_assoc, append-nil, arith, length-append, MatchResult}
-use Rattle.std.proofs.lemmas.List.{reverse-append, reverse-reverse}
+-- A list of requests that is served from the first to the last.
+use Rattle.std.proofs.Common.{◌≡◌, List, [], ◌∷◌, ◌++◌, length, Ok, Err, vec_items, Result, Vec, sym, refl, ap, ◌∙◌, subst, append_assoc, append-nil, arith, length-append, MatchResult}
 use Rattle.solver.specs.declared.Solver.{Ghosts}
-use Rattle.sheets.specs.declared.Sheet.{Sheet}
+use Rattle.session.specs.declared.pair.Pair.{Pair}
 use Rattle.model.specs.Model.{PairModel}
 use Rattle.model.specs.Calls.{answered, next}
 use Rattle.model.specs.Guarantee.{Event, calls_of, after, ByTheModel}
@@ -23,32 +22,32 @@ events_more (y ∷ qs) (x ∷ rs) q r e = ap (λ es. event y x ∷ es) (events_m
 
 module _ {M B : Type 0} (m : Ghosts M) (b : Ghosts B) where
   -- what was served before the loop comes to those that wait
-  pub record Serving (make₀ make : Sheet M) (brk₀ brk : Sheet B) (all waiting : List Request) (rs : List Response) : Type 0 where
+  pub record Serving (pair₀ pair : Pair M B m b) (all waiting : List Request) (rs : List Response) : Type 0 where
     pub front : List Request
-    pub cut : front ++ reverse waiting ≡ all
+    pub cut : front ++ waiting ≡ all
     pub as_many : length rs ≡ length front
-    pub served : (p : PairModel) → Mirrors m b make₀ brk₀ p → Served m b make brk p front rs
+    pub served : (p : PairModel) → Mirrors m b pair₀ p → Served m b pair p front rs
 
-  pub serving_none : (make : Sheet M) (brk : Sheet B) (waiting : List Request) → Serving make make brk brk (reverse waiting) waiting []
-  serving_none make brk waiting = record {
+  pub serving_none : (pair : Pair M B m b) (waiting : List Request) → Serving pair pair waiting waiting []
+  serving_none pair waiting = record {
     front = [];
     cut = refl;
     as_many = refl;
     served = λ p h. record { as_many = refl; by_the_model = tt; here = h };
   }
 
-  module _ (make₀ make make' : Sheet M) (brk₀ brk brk' : Sheet B) (all was now : List Request) (rs rs' : List Response) (q : Request) (r : Response) where
-    pub serving_more : Serving make₀ make brk₀ brk all was rs → was ≡ now ++ q ∷ [] → rs' ≡ rs ++ r ∷ [] → ((p : PairModel) → Mirrors m b make brk p → (says r ≡ answered p (asks q)) × Mirrors m b make' brk' (next p (asks q))) → Serving make₀ make' brk₀ brk' all now rs'
+  module _ (pair₀ pair pair' : Pair M B m b) (all was now : List Request) (rs rs' : List Response) (q : Request) (r : Response) where
+    pub serving_more : Serving pair₀ pair all was rs → was ≡ q ∷ now → rs' ≡ rs ++ r ∷ [] → ((p : PairModel) → Mirrors m b pair p → (says r ≡ answered p (asks q)) × Mirrors m b pair' (next p (asks q))) → Serving pair₀ pair' all now rs'
     serving_more s taken placed turn = record {
       front = s.front ++ q ∷ [];
-      cut = append_assoc s.front (q ∷ []) (reverse now) ∙ ap (λ t. s.front ++ t) (sym (ap reverse taken ∙ reverse-append now (q ∷ []))) ∙ s.cut;
+      cut = append_assoc s.front (q ∷ []) now ∙ ap (λ t. s.front ++ t) (sym taken) ∙ s.cut;
       as_many = ap length placed ∙ more;
-      served = λ p h. subst (Served m b make' brk' p (s.front ++ q ∷ [])) (sym placed) (later p (s.served p h));
+      served = λ p h. subst (Served m b pair' p (s.front ++ q ∷ [])) (sym placed) (later p (s.served p h));
     } where
       more : length (rs ++ r ∷ []) ≡ length (s.front ++ q ∷ [])
       more = let known = s.as_many in omega (arith, length-append rs (r ∷ []), length-append s.front (q ∷ []))
 
-      later : (p : PairModel) → Served m b make brk p s.front rs → Served m b make' brk' p (s.front ++ q ∷ []) (rs ++ r ∷ [])
+      later : (p : PairModel) → Served m b pair p s.front rs → Served m b pair' p (s.front ++ q ∷ []) (rs ++ r ∷ [])
       later p d =
           let done : List Event = events s.front rs in
           let here = turn (after p (calls_of done)) d.here in
@@ -56,27 +55,27 @@ module _ {M B : Type 0} (m : Ghosts M) (b : Ghosts B) where
           record {
             as_many = more;
             by_the_model = subst (ByTheModel p) (sym longer) (joined_by p done (event q r ∷ []) d.by_the_model (here.0, tt));
-            here = subst (λ es. Mirrors m b make' brk' (after p (calls_of es))) (sym longer) (subst (Mirrors m b make' brk') (sym (after_behind p done (event q r ∷ []))) here.1);
+            here = subst (λ es. Mirrors m b pair' (after p (calls_of es))) (sym longer) (subst (Mirrors m b pair') (sym (after_behind p done (event q r ∷ []))) here.1);
           }
 
   -- none waits: all were served
-  pub serving_all : (make₀ make : Sheet M) (brk₀ brk : Sheet B) (all ahead waiting : List Request) (rs : List Response) → ahead ≡ reverse all → length waiting ≡ 0 → Serving make₀ make brk₀ brk (reverse ahead) waiting rs → (p : PairModel) → Mirrors m b make₀ brk₀ p → Served m b make brk p all rs
-  serving_all make₀ make brk₀ brk all ahead [] rs turned none s p h =
-      let whole : s.front ≡ all = sym (append-nil s.front) ∙ s.cut ∙ ap reverse turned ∙ reverse-reverse all in
-      subst (λ qs. Served m b make brk p qs rs) whole (s.served p h)
-  serving_all make₀ make brk₀ brk all ahead (q ∷ waiting) rs turned none s p h = absurd (omega arith)
+  pub serving_all : (pair₀ pair : Pair M B m b) (all waiting : List Request) (rs : List Response) → length waiting ≡ 0 → Serving pair₀ pair all waiting rs → (p : PairModel) → Mirrors m b pair₀ p → Served m b pair p all rs
+  serving_all pair₀ pair all [] rs none s p h =
+      let whole : s.front ≡ all = sym (append-nil s.front) ∙ s.cut in
+      subst (λ qs. Served m b pair p qs rs) whole (s.served p h)
+  serving_all pair₀ pair all (q ∷ waiting) rs none s p h = absurd (omega arith)
 
   -- the guarantee goes on over a list that was served
-  pub list_goes_on : (make₀ make : Sheet M) (brk₀ brk : Sheet B) (qs : List Request) (rs : List Response) → ((p : PairModel) → Mirrors m b make₀ brk₀ p → Served m b make brk p qs rs) → (start : PairModel) (past : List Event) → Stands m b make₀ brk₀ start past → Stands m b make brk start (past ++ events qs rs)
-  list_goes_on make₀ make brk₀ brk qs rs served start past s =
+  pub list_goes_on : (pair₀ pair : Pair M B m b) (qs : List Request) (rs : List Response) → ((p : PairModel) → Mirrors m b pair₀ p → Served m b pair p qs rs) → (start : PairModel) (past : List Event) → Stands m b pair₀ start past → Stands m b pair start (past ++ events qs rs)
+  list_goes_on pair₀ pair qs rs served start past s =
       let d = served (after start (calls_of past)) s.here in
       record {
         new = s.new;
         guaranteed = onward start past (events qs rs) s.new s.guaranteed d.by_the_model;
-        here = subst (Mirrors m b make brk) (sym (after_behind start past (events qs rs))) d.here;
+        here = subst (Mirrors m b pair) (sym (after_behind start past (events qs rs))) d.here;
       }
 
   -- and over one that was served, or for which there was no memory
-  pub result_goes_on : (make₀ make : Sheet M) (brk₀ brk : Sheet B) (qs : List Request) (r : Result (Vec Response Global) (Vec Request Global)) → ((p : PairModel) → Mirrors m b make₀ brk₀ p → MatchResult r (λ rs. Served m b make brk p qs (vec_items rs)) (λ _. Mirrors m b make brk p)) → (start : PairModel) (past : List Event) → Stands m b make₀ brk₀ start past → MatchResult r (λ rs. Stands m b make brk start (past ++ events qs (vec_items rs))) (λ _. Stands m b make brk start past)
-  result_goes_on make₀ make brk₀ brk qs (Ok rs) served start past s = list_goes_on make₀ make brk₀ brk qs (vec_items rs) served start past s
-  result_goes_on make₀ make brk₀ brk qs (Err back) kept start past s = record { new = s.new; guaranteed = s.guaranteed; here = kept (after start (calls_of past)) s.here }
+  pub result_goes_on : (pair₀ pair : Pair M B m b) (qs : List Request) (r : Result (Vec Response Global) (Vec Request Global)) → ((p : PairModel) → Mirrors m b pair₀ p → MatchResult r (λ rs. Served m b pair p qs (vec_items rs)) (λ _. Mirrors m b pair p)) → (start : PairModel) (past : List Event) → Stands m b pair₀ start past → MatchResult r (λ rs. Stands m b pair start (past ++ events qs (vec_items rs))) (λ _. Stands m b pair start past)
+  result_goes_on pair₀ pair qs (Ok rs) served start past s = list_goes_on pair₀ pair qs (vec_items rs) served start past s
+  result_goes_on pair₀ pair qs (Err back) kept start past s = record { new = s.new; guaranteed = s.guaranteed; here = kept (after start (calls_of past)) s.here }

@@ -3,10 +3,10 @@ use Rattle.std.specs.Prelude.{◌≡◌, List, [], map, length, None, Ok, Err, R
 use Rattle.std.specs.List.{AllByRecursion}
 use Rattle.literals.specs.Literals.{first_unnamed, set_of}
 use Rattle.solver.specs.declared.Solver.{Ghosts}
-use Rattle.sheets.specs.declared.Sheet.{Sheet}
 use Rattle.sheets.specs.Sheets.{SheetMeaning, sheet_meaning}
 use Rattle.model.specs.Model.{SheetModel, PairModel}
 use Rattle.model.specs.Guarantee.{Event, calls_of, after, NewPair, ByTheModel, Guaranteed}
+use Rattle.session.specs.declared.pair.Pair.{Pair}
 use Rattle.session.specs.declared.request.Request.{Request}
 use Rattle.session.specs.declared.request.Response.{Response}
 use Rattle.session.specs.Requests.{events}
@@ -31,11 +31,11 @@ new_pair make brk = record { make = new_model make; brk = new_model brk }
 abbrev pub RulesNamed : SheetModel → Type 0
 RulesNamed s = AllByRecursion (λ r. first_unnamed s.contacts r ≡ None) s.rules
 
-module _ {M B : Type 0} (m : Ghosts M) (b : Ghosts B) (make : Sheet M) (brk : Sheet B) where
+module _ {M B : Type 0} (m : Ghosts M) (b : Ghosts B) (pair : Pair M B m b) where
   -- the model describes both sheets, and its rules name contacts
   pub record Mirrors (p : PairModel) : Type 0 where
-    pub make_means : sheet_meaning m make ≡ meaning_of p.make
-    pub break_means : sheet_meaning b brk ≡ meaning_of p.brk
+    pub make_means : sheet_meaning m pair.make ≡ meaning_of p.make
+    pub break_means : sheet_meaning b pair.brk ≡ meaning_of p.brk
     pub make_named : RulesNamed p.make
     pub break_named : RulesNamed p.brk
 

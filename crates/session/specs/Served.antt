@@ -7,7 +7,6 @@ use Rattle.sheets.specs.declared.Ticket.{Ticket}
 use Rattle.sheets.specs.declared.Unreleased.{Unreleased}
 use Rattle.sheets.specs.Sheets.{SheetMeaning, rule_answer, after_rule, assume_fault, assume_answer, after_assume, held_at, release_answer, after_release}
 use Rattle.sheets.specs.Answers.{least_answer, why_answer, over}
-use Rattle.sheets.specs.Entries.{entries_over}
 use Rattle.model.specs.Calls.{done, issued, least_written, reason_written, terms_written, nothing, same_ticket, same_literals, same_terms, Reply, accepted, denied}
 use Rattle.terms.specs.Answers.{terms_answer}
 use Rattle.model.specs.declared.Side.TheVariants.{Make, Break}
@@ -37,7 +36,7 @@ why_says (Ok ls) out = accepted (reason_written (length ls) (over ls out))
 why_says (Err f) out = denied (sheet_refusal f) (same_literals out)
 
 abbrev pub terms_says : Result (List Term) SheetFault → List Term → Reply
-terms_says (Ok ts) out = accepted (terms_written (length ts) (entries_over ts out))
+terms_says (Ok ts) out = accepted (terms_written (length ts) (over ts out))
 terms_says (Err f) out = denied (sheet_refusal f) (same_terms out)
 
 abbrev pub call_reply : SheetMeaning → SheetCall → Reply

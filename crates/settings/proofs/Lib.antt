@@ -2,5 +2,4 @@ pub mod Recorded
 pub mod Scans
 pub mod Sets
 pub mod Listed
-pub mod Passing
 pub mod Wanted

@@ -1,6 +1,6 @@
 -- What the records of settings and terms say.
-use Rattle.std.specs.Prelude.{ℕ, Bool, cond, List, [], ◌∷◌, map, ℤ, Some, None, Option, bit_and}
-use Rattle.std.specs.List.{range_with_len}
+use Rattle.std.specs.Prelude.{ℕ, Bool, List, map, ℤ, Option, bit_and}
+use Rattle.std.specs.List.{find, range_with_len}
 use Rattle.literals.specs.Bits.{bit}
 use Rattle.literals.specs.Literals.{set_of}
 use Rattle.settings.specs.declared.Setting.{Setting}
@@ -15,5 +15,4 @@ setting_of ls = record { closed = bit_and (set_of ls).closed 0xffff_ffff }
 
 -- the first setting of a list that passes
 abbrev pub first_passing : ℕ → (List Bool → Bool) → List Setting → Option Setting
-first_passing n p [] = None
-first_passing n p (s ∷ ss) = cond (p (reading n s)) (Some s) (first_passing n p ss)
+first_passing n p ss = find (λ s. p (reading n s)) ss

@@ -118,8 +118,8 @@ impl From<&[i8]> for Setting {
     }
 }
 
-// The literal that contact index + 1 agrees with.
-fn literal_of(index: usize, closed: bool) -> i8
+// The literal that wants contact index + 1 closed, or open.
+pub fn literal_of(index: usize, closed: bool) -> i8
     requires few { index < 32 }
     ensures agreeing { result ≡ literal index closed }
 {

@@ -1,2 +1,3 @@
 mod Order
 pub mod Written
+pub mod Places

@@ -15,11 +15,10 @@ use Rattle.laws.proofs.Trim.{length_chosen}
 use Rattle.laws.proofs.Why.{why_reasoned}
 use Rattle.solver.specs.Meaning.{stands, stands_with}
 use Rattle.sheets.specs.Sheets.{SheetMeaning, held_literals}
-use Rattle.sheets.specs.Answers.{least_answer, why_answer, told, counted, written, LeastLaw, WhyLaw}
-use Rattle.sheets.specs.Entries.{entries_over}
+use Rattle.sheets.specs.Answers.{over, least_answer, why_answer, told, counted, written, LeastLaw, WhyLaw}
 
 -- what is written stands at the front
-pub over_front : {A : Type 0} (ls out : List A) (n : ℕ) → length ls ≡ n → n ≤ length out → take n (entries_over ls out) ≡ ls
+pub over_front : {A : Type 0} (ls out : List A) (n : ℕ) → length ls ≡ n → n ≤ length out → take n (over ls out) ≡ ls
 over_front ls out n long room =
     ap (take n) (cond-true (leb (length ls) (length out)) (ls ++ drop (length ls) out) out (le-leb (length ls) (length out) (omega arith)))
     ∙ take_at ls (drop (length ls) out) n long

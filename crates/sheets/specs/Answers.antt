@@ -11,7 +11,7 @@ use Rattle.queries.specs.Queries.{least_literals, why_literals}
 use Rattle.sheets.specs.Sheets.{SheetMeaning, held_literals}
 
 -- a list at the front of a buffer that is long enough, and what stood behind it
-abbrev pub over : List ℤ → List ℤ → List ℤ
+abbrev pub over : {A : Type 0} → List A → List A → List A
 over ls out = cond (nat_le (length ls) (length out)) (ls ++ drop (length ls) out) out
 
 -- LEAST: is the buffer as long as there are contacts? is a setting allowed under the held assumptions? then its literals are written
@@ -23,16 +23,16 @@ abbrev pub why_answer : SheetMeaning → ℕ → Result (List ℤ) SheetFault
 why_answer p size = cond (nat_lt size (length p.held)) (Err ShortBuffer) (ok_or (why_literals p.meaning (held_literals p.held)) SomeAllowed)
 
 -- what the caller is told: nothing more, or how many were written
-abbrev pub told : Result (List ℤ) SheetFault → Result (Unit {0}) SheetFault
+abbrev pub told : {A : Type 0} → Result (List A) SheetFault → Result (Unit {0}) SheetFault
 told (Ok ls) = Ok tt
 told (Err f) = Err f
 
-abbrev pub counted : Result (List ℤ) SheetFault → Result ℕ SheetFault
+abbrev pub counted : {A : Type 0} → Result (List A) SheetFault → Result ℕ SheetFault
 counted (Ok ls) = Ok (length ls)
 counted (Err f) = Err f
 
 -- the buffer afterwards: a refusal leaves it as it was
-abbrev pub written : Result (List ℤ) SheetFault → List ℤ → List ℤ
+abbrev pub written : {A : Type 0} → Result (List A) SheetFault → List A → List A
 written (Ok ls) out = over ls out
 written (Err f) out = out
 

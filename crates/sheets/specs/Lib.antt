@@ -1,3 +1,2 @@
 pub mod Sheets
 pub mod Answers
-pub mod Entries

@@ -1,11 +1,11 @@
 -- A sheet by its meaning, and what RULE, ASSUME and RELEASE answer and leave.
-use Rattle.std.specs.Prelude.{◌≡◌, ℕ, suc, ◌+◌, cond, List, [], ◌∷◌, ◌++◌, map, length, ℤ, Some, None, Ok, Err, Option, Result, ◌==◌, nat_lt}
+use Rattle.std.specs.Prelude.{◌≡◌, ℕ, suc, ◌+◌, Bool, cond, List, [], ◌∷◌, ◌++◌, map, length, ℤ, Some, None, Ok, Err, Option, Result, ◌==◌, nat_lt}
 use Rattle.std.specs.Option.{option_map}
 use Rattle.faults.specs.declared.SolverFault.{SolverFault}
 use Rattle.faults.specs.declared.SolverFault.TheVariants.{BadLiteral}
 use Rattle.faults.specs.declared.SheetFault.{SheetFault}
 use Rattle.faults.specs.declared.SheetFault.TheVariants.{Solver, TooManyHeld, TooManyTickets, NotHeld}
-use Rattle.literals.specs.Literals.{names, first_unnamed}
+use Rattle.literals.specs.Literals.{names}
 use Rattle.tables.specs.Tables.{items, without}
 use Rattle.solver.specs.declared.Solver.{Ghosts}
 use Rattle.solver.specs.Meaning.{Meaning, add_fault, with_rule, without_bars}
@@ -26,18 +26,11 @@ abbrev pub held_literals : List Held → List ℤ
 held_literals hs = map (λ h. h.literal) hs
 
 module _ {S : Type 0} (v : Ghosts S) where
-  abbrev pub sheet_meaning : Sheet S → SheetMeaning
+  abbrev pub sheet_meaning : Sheet S v → SheetMeaning
   sheet_meaning x = record { meaning = meaning_of v x.solver; label = x.label; held = items x.held; count = x.count }
 
-  -- a sheet is in order when its solver is, no bar is held and the held literals name contacts
-  pub record InOrder (x : Sheet S) : Type 0 where
-    pub solver : v.ordered x.solver
-    pub no_bars : v.bars x.solver ≡ []
-    pub named : first_unnamed (v.size x.solver) (held_literals (items x.held)) ≡ None
-
-  -- a sheet is new when it is in order and has no added rule, no assumption and no ticket issued
-  pub record New (x : Sheet S) : Type 0 where
-    pub in_order : InOrder x
+  -- a sheet is new when it has no added rule, no assumption and no ticket issued
+  pub record New (x : Sheet S v) : Type 0 where
     pub no_rules : v.added x.solver ≡ []
     pub none_held : items x.held ≡ []
     pub none_issued : x.count ≡ 0
@@ -78,10 +71,14 @@ abbrev pub after_assume : SheetMeaning → ℤ → Option SheetFault → SheetMe
 after_assume p l None = with_held p l
 after_assume p l (Some f) = p
 
+-- the place of the first entry of a list that passes a test
+abbrev pub first_place : {A : Type 0} → (A → Bool) → List A → Option ℕ
+first_place test [] = None
+first_place test (x ∷ xs) = cond (test x) (Some 0) (option_map suc (first_place test xs))
+
 -- RELEASE: the place of the held entry with the ticket's label and number
 abbrev pub numbered_at : ℕ → List Held → Option ℕ
-numbered_at number [] = None
-numbered_at number (h ∷ hs) = cond (h.number == number) (Some 0) (option_map suc (numbered_at number hs))
+numbered_at number hs = first_place (λ h. h.number == number) hs
 
 abbrev pub held_at : SheetMeaning → Ticket → Option ℕ
 held_at p t = cond (t.label == p.label) (numbered_at t.number p.held) None

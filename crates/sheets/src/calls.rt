@@ -1,9 +1,10 @@
 // Opening a sheet, RULE, ASSUME and RELEASE.
-ghost use Rattle.std.specs.Prelude.{◌≡◌, ◌<◌, [], length};
+ghost use Rattle.std.specs.Prelude.{◌≡◌, ◌<◌, true, [], length};
+ghost use Rattle.literals.specs.Literals.{names};
 ghost use Rattle.tables.specs.Tables.{items};
 ghost use Rattle.solver.specs.Meaning.{add_fault, with_rule};
 ghost use Rattle.solver.specs.Over.{meaning_of};
-ghost use Rattle.sheets.specs.Sheets.{sheet_meaning, InOrder, New, opened, ruled, rule_answer, after_rule, assume_fault, next_ticket, assume_answer, with_held, after_assume, numbered_at, held_at, release_answer, without_held, after_release};
+ghost use Rattle.sheets.specs.Sheets.{sheet_meaning, New, opened, ruled, rule_answer, after_rule, assume_fault, next_ticket, assume_answer, with_held, after_assume, numbered_at, held_at, release_answer, without_held, after_release};
 
 use super::{Held, Sheet, Ticket, Unreleased};
 use faults::{SheetFault, SolverFault};
@@ -13,10 +14,8 @@ use tables::table::Table;
 
 // Adds a rule to a solver; its fault is handed on whole.
 fn add_rule<S: Solver>(solver: &mut S, literals: &[i8]) -> Result<(), SheetFault>
-    requires ordered { S.Solver.ordered solver.old }
     ensures answer { result ≡ ruled (add_fault (meaning_of S.Solver solver.old) literals.now) }
     ensures rule_added { meaning_of S.Solver solver.new ≡ with_rule (meaning_of S.Solver solver.old) literals.now }
-    ensures ordered { S.Solver.ordered solver.new }
 {
     solver.add(literals)?;
     Ok(())
@@ -26,12 +25,7 @@ fn add_rule<S: Solver>(solver: &mut S, literals: &[i8]) -> Result<(), SheetFault
 fn place_of(held: &[Held], number: u16) -> Option<usize>
     ensures first { result ≡ numbered_at number held.now }
 {
-    for (place, entry) in held.iter().enumerate() {
-        if entry.number == number {
-            return Some(place);
-        }
-    }
-    None
+    held.iter().position(|entry| entry.number == number)
 }
 
 impl Ticket {
@@ -53,9 +47,7 @@ impl Ticket {
 impl<S: Solver> Sheet<S> {
     // A sheet over a solver, whose bars are cleared.
     pub fn open(mut solver: S, label: u16) -> Self
-        requires ordered { S.Solver.ordered solver }
         ensures opened { sheet_meaning S.Solver result ≡ opened (meaning_of S.Solver solver) label }
-        ensures in_order { InOrder S.Solver result }
         ensures new { S.Solver.added solver ≡ [] → New S.Solver result }
     {
         solver.clear();
@@ -73,17 +65,14 @@ impl<S: Solver> Sheet<S> {
 
     // RULE: adds the rule.
     pub fn rule(&mut self, literals: &[i8]) -> Result<(), SheetFault>
-        requires in_order { InOrder S.Solver self.old }
         ensures answer { result ≡ rule_answer (sheet_meaning S.Solver self.old) literals.now }
         ensures rule_added { sheet_meaning S.Solver self.new ≡ after_rule (sheet_meaning S.Solver self.old) literals.now }
-        ensures in_order { InOrder S.Solver self.new }
     {
         add_rule(&mut self.solver, literals)
     }
 
     // What ASSUME refuses a literal with.
     fn refuses(&self, literal: i8) -> Option<SheetFault>
-        requires ordered { S.Solver.ordered self.now.solver }
         ensures fault { result ≡ assume_fault (sheet_meaning S.Solver self.now) literal }
     {
         if !names_one_of(self.solver.contacts(), literal) {
@@ -99,11 +88,11 @@ impl<S: Solver> Sheet<S> {
 
     // Places a literal last among the held ones and issues its ticket.
     fn hold(&mut self, literal: i8) -> Ticket
+        requires named { names (S.Solver.size self.old.solver) literal ≡ true }
         requires room { length (items self.old.held) < 32 }
         requires numbers_left { self.old.count < 65535 }
         ensures ticket { result ≡ next_ticket (sheet_meaning S.Solver self.old) }
         ensures held { sheet_meaning S.Solver self.new ≡ with_held (sheet_meaning S.Solver self.old) literal }
-        ensures solver_kept { self.new.solver ≡ self.old.solver }
     {
         let number = self.count + 1;
         let _ = self.held.push(Held { literal, number });
@@ -116,10 +105,8 @@ impl<S: Solver> Sheet<S> {
 
     // ASSUME: places a literal last among the held ones and issues a ticket for it.
     pub fn assume(&mut self, literal: i8) -> Result<Ticket, SheetFault>
-        requires in_order { InOrder S.Solver self.old }
         ensures answer { result ≡ assume_answer (sheet_meaning S.Solver self.old) (assume_fault (sheet_meaning S.Solver self.old) literal) }
         ensures held { sheet_meaning S.Solver self.new ≡ after_assume (sheet_meaning S.Solver self.old) literal (assume_fault (sheet_meaning S.Solver self.old) literal) }
-        ensures in_order { InOrder S.Solver self.new }
     {
         match self.refuses(literal) {
             Some(fault) => Err(fault),
@@ -141,17 +128,14 @@ impl<S: Solver> Sheet<S> {
     // Takes the assumption at a place out.
     fn strike(&mut self, place: usize)
         ensures struck { sheet_meaning S.Solver self.new ≡ without_held (sheet_meaning S.Solver self.old) place }
-        ensures solver_kept { self.new.solver ≡ self.old.solver }
     {
         let _ = self.held.remove(place);
     }
 
     // RELEASE: the assumption that the ticket was issued for leaves, and that spends the ticket; a ticket whose assumption is not held here is handed back.
     pub fn release(&mut self, ticket: Ticket) -> Result<(), Unreleased>
-        requires in_order { InOrder S.Solver self.old }
         ensures answer { result ≡ release_answer (held_at (sheet_meaning S.Solver self.old) ticket) ticket }
         ensures released { sheet_meaning S.Solver self.new ≡ after_release (sheet_meaning S.Solver self.old) (held_at (sheet_meaning S.Solver self.old) ticket) }
-        ensures in_order { InOrder S.Solver self.new }
     {
         match self.place_for(&ticket) {
             None => Err(Unreleased {

@@ -1,6 +1,11 @@
 // Sheets: a solver with held assumptions, and the calls on them.
 #![tactic(auto)]
 
+ghost use Rattle.std.specs.Prelude.{◌≡◌, [], map, None};
+ghost use Rattle.std.proofs.Props.{props};
+ghost use Rattle.literals.specs.Literals.{first_unnamed};
+ghost use Rattle.tables.specs.Tables.{items};
+
 use faults::SheetFault;
 use solver::Solver;
 use tables::table::Table;
@@ -22,13 +27,15 @@ pub struct Ticket {
 }
 
 // A sheet owns one solver of any kind, and allows the settings that stand in it. Its label tells its tickets from those of other sheets, and `count` is how many it has issued.
-// The solver is open to calls on two sheets at once, which have to leave the sheet in order.
+// The solver is open to calls on two sheets at once.
 #[derive(Drop)]
 pub struct Sheet<S: Solver> {
     pub solver: S,
     label: u16,
     held: Table<Held, 32>,
     count: u16,
+    pub ghost no_bars: { S.Solver.bars solver ≡ [] } by { Prim.hlevel props },
+    pub ghost named: { first_unnamed (S.Solver.size solver) (map (λ h. h.literal) (items held)) ≡ None } by { Prim.hlevel props },
 }
 
 // A refused RELEASE hands the ticket back.

@@ -3,9 +3,8 @@ ghost use Rattle.std.specs.Prelude.{◌≡◌, length};
 ghost use Rattle.std.specs.Option.{option_map};
 ghost use Rattle.tables.specs.Tables.{items};
 ghost use Rattle.queries.specs.Queries.{least_literals, why_literals};
-ghost use Rattle.sheets.specs.Sheets.{sheet_meaning, held_literals, InOrder};
-ghost use Rattle.sheets.specs.Entries.{entries_over};
-ghost use Rattle.sheets.specs.Answers.{least_answer, why_answer, told, counted, written, LeastLaw, WhyLaw};
+ghost use Rattle.sheets.specs.Sheets.{sheet_meaning, held_literals};
+ghost use Rattle.sheets.specs.Answers.{over, least_answer, why_answer, told, counted, written, LeastLaw, WhyLaw};
 
 use super::{Held, Sheet};
 use faults::SheetFault;
@@ -26,7 +25,7 @@ fn literals_of(held: &Table<Held, 32>) -> Table<i8, 32>
 
 // Writes a list at the front of a buffer that is long enough.
 pub fn write_front<T: Copy>(out: &mut [T], entries: &[T])
-    ensures written { out.new ≡ entries_over entries.now out.old }
+    ensures written { out.new ≡ over entries.now out.old }
 {
     let size = entries.len();
     if size <= out.len() {
@@ -37,10 +36,8 @@ pub fn write_front<T: Copy>(out: &mut [T], entries: &[T])
 impl<S: Solver> Sheet<S> {
     // The literals of the earliest allowed setting that agrees with all held assumptions.
     fn earliest_held(&mut self) -> Option<Table<i8, 32>>
-        requires in_order { InOrder S.Solver self.old }
         ensures found { option_map items result ≡ least_literals (sheet_meaning S.Solver self.old).meaning (held_literals (sheet_meaning S.Solver self.old).held) }
         ensures meaning_kept { sheet_meaning S.Solver self.new ≡ sheet_meaning S.Solver self.old }
-        ensures in_order { InOrder S.Solver self.new }
     {
         let held = literals_of(&self.held);
         match earliest(&mut self.solver, &held) {
@@ -51,10 +48,8 @@ impl<S: Solver> Sheet<S> {
 
     // The choice of smallest number of the held assumptions that is enough.
     fn reason_held(&mut self) -> Option<Table<i8, 32>>
-        requires in_order { InOrder S.Solver self.old }
         ensures found { option_map items result ≡ why_literals (sheet_meaning S.Solver self.old).meaning (held_literals (sheet_meaning S.Solver self.old).held) }
         ensures meaning_kept { sheet_meaning S.Solver self.new ≡ sheet_meaning S.Solver self.old }
-        ensures in_order { InOrder S.Solver self.new }
     {
         let held = literals_of(&self.held);
         match reason(&mut self.solver, &held) {
@@ -65,11 +60,9 @@ impl<S: Solver> Sheet<S> {
 
     // LEAST by its definition: the buffer is asked for first, and then whether a setting is allowed.
     fn write_least(&mut self, out: &mut [i8]) -> Result<(), SheetFault>
-        requires in_order { InOrder S.Solver self.old }
         ensures answer { result ≡ told (least_answer (sheet_meaning S.Solver self.old) (length out.old)) }
         ensures buffer { out.new ≡ written (least_answer (sheet_meaning S.Solver self.old) (length out.old)) out.old }
         ensures meaning_kept { sheet_meaning S.Solver self.new ≡ sheet_meaning S.Solver self.old }
-        ensures in_order { InOrder S.Solver self.new }
     {
         if out.len() < self.solver.contacts() {
             return Err(SheetFault::ShortBuffer);
@@ -86,11 +79,9 @@ impl<S: Solver> Sheet<S> {
 
     // WHY by its definition: the buffer is asked for first, and then whether no setting is allowed.
     fn write_why(&mut self, out: &mut [i8]) -> Result<usize, SheetFault>
-        requires in_order { InOrder S.Solver self.old }
         ensures answer { result ≡ counted (why_answer (sheet_meaning S.Solver self.old) (length out.old)) }
         ensures buffer { out.new ≡ written (why_answer (sheet_meaning S.Solver self.old) (length out.old)) out.old }
         ensures meaning_kept { sheet_meaning S.Solver self.new ≡ sheet_meaning S.Solver self.old }
-        ensures in_order { InOrder S.Solver self.new }
     {
         if out.len() < self.held.len() {
             return Err(SheetFault::ShortBuffer);
@@ -107,24 +98,20 @@ impl<S: Solver> Sheet<S> {
 
     // LEAST: writes the earliest allowed setting that agrees with all held assumptions, as literals in contact order at the buffer's front.
     pub fn least(&mut self, out: &mut [i8]) -> Result<(), SheetFault>
-        requires in_order { InOrder S.Solver self.old }
         ensures answer { result ≡ told (least_answer (sheet_meaning S.Solver self.old) (length out.old)) }
         ensures buffer { out.new ≡ written (least_answer (sheet_meaning S.Solver self.old) (length out.old)) out.old }
         ensures earliest { LeastLaw (sheet_meaning S.Solver self.old) out.new result }
         ensures meaning_kept { sheet_meaning S.Solver self.new ≡ sheet_meaning S.Solver self.old }
-        ensures in_order { InOrder S.Solver self.new }
     {
         self.write_least(out)
     }
 
     // WHY: writes the enough choice of smallest number from the held assumptions, in held order at the buffer's front, and answers its size.
     pub fn why(&mut self, out: &mut [i8]) -> Result<usize, SheetFault>
-        requires in_order { InOrder S.Solver self.old }
         ensures answer { result ≡ counted (why_answer (sheet_meaning S.Solver self.old) (length out.old)) }
         ensures buffer { out.new ≡ written (why_answer (sheet_meaning S.Solver self.old) (length out.old)) out.old }
         ensures smallest { WhyLaw (sheet_meaning S.Solver self.old) out.new result }
         ensures meaning_kept { sheet_meaning S.Solver self.new ≡ sheet_meaning S.Solver self.old }
-        ensures in_order { InOrder S.Solver self.new }
     {
         self.write_why(out)
     }

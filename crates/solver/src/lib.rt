@@ -24,40 +24,28 @@ pub trait Solver {
 
     ghost bars: { Self → List LiteralSet };
 
-    // what the calls need and keep
-    ghost ordered: { Self → Type 0 };
-
-    ghost few: { (s : Self) → ordered s → (1 ≤ size s) × (size s ≤ 32) };
+    ghost few: { (s : Self) → (1 ≤ size s) × (size s ≤ 32) };
 
     // CONTACTS: the number of contacts.
     fn contacts(&self) -> usize
-        requires ordered { ordered self.now }
         ensures count { result ≡ size self.now };
 
     // ASK: a standing setting that agrees with all the literals, or none exactly where there is none.
     fn ask(&mut self, literals: &[i8]) -> Result<Option<Setting>, SolverFault>
-        requires ordered { ordered self.old }
         ensures answer { Asked (meaning_from size base added bars self.old) literals.now result }
-        ensures meaning_kept { meaning_from size base added bars self.new ≡ meaning_from size base added bars self.old }
-        ensures ordered { ordered self.new };
+        ensures meaning_kept { meaning_from size base added bars self.new ≡ meaning_from size base added bars self.old };
 
     // ADD: appends a rule.
     fn add(&mut self, literals: &[i8]) -> Result<(), SolverFault>
-        requires ordered { ordered self.old }
         ensures answer { result ≡ outcome (add_fault (meaning_from size base added bars self.old) literals.now) }
-        ensures rule_appended { meaning_from size base added bars self.new ≡ with_rule (meaning_from size base added bars self.old) literals.now }
-        ensures ordered { ordered self.new };
+        ensures rule_appended { meaning_from size base added bars self.new ≡ with_rule (meaning_from size base added bars self.old) literals.now };
 
     // BAR: appends a bar.
     fn bar(&mut self, literals: &[i8]) -> Result<(), SolverFault>
-        requires ordered { ordered self.old }
         ensures answer { result ≡ outcome (bar_fault (meaning_from size base added bars self.old) literals.now) }
-        ensures bar_appended { meaning_from size base added bars self.new ≡ with_bar (meaning_from size base added bars self.old) literals.now }
-        ensures ordered { ordered self.new };
+        ensures bar_appended { meaning_from size base added bars self.new ≡ with_bar (meaning_from size base added bars self.old) literals.now };
 
     // CLEAR: empties the bars.
     fn clear(&mut self)
-        requires ordered { ordered self.old }
-        ensures bars_emptied { meaning_from size base added bars self.new ≡ without_bars (meaning_from size base added bars self.old) }
-        ensures ordered { ordered self.new };
+        ensures bars_emptied { meaning_from size base added bars self.new ≡ without_bars (meaning_from size base added bars self.old) };
 }

@@ -7,15 +7,14 @@ ghost use Rattle.solver.specs.Meaning.{without_bars};
 ghost use Rattle.solver.specs.Over.{meaning_of};
 ghost use Rattle.striking.specs.Striking.{with_term, with_terms, covers_some, unstruck};
 
+use queries::witness;
 use settings::Term;
 use solver::Solver;
 use tables::table::Table;
 
 // Bars what a term covers.
 pub fn bar_term<S: Solver>(solver: &mut S, term: Term)
-    requires ordered { S.Solver.ordered solver.old }
     ensures barred { meaning_of S.Solver solver.new ≡ with_term (meaning_of S.Solver solver.old) term }
-    ensures ordered { S.Solver.ordered solver.new }
 {
     let literals = term.literals(solver.contacts());
     let _ = solver.bar(literals.as_slice());
@@ -23,9 +22,7 @@ pub fn bar_term<S: Solver>(solver: &mut S, term: Term)
 
 // Bars what each of the terms covers.
 fn bar_terms<S: Solver>(solver: &mut S, terms: &[Term])
-    requires ordered { S.Solver.ordered solver.old }
     ensures barred { meaning_of S.Solver solver.new ≡ with_terms (meaning_of S.Solver solver.old) terms.now }
-    ensures ordered { S.Solver.ordered solver.new }
 {
     for term in terms {
         bar_term(solver, *term);
@@ -34,25 +31,18 @@ fn bar_terms<S: Solver>(solver: &mut S, terms: &[Term])
 
 // Whether some setting stands that the term covers.
 fn covers_some<S: Solver>(solver: &mut S, term: Term) -> bool
-    requires ordered { S.Solver.ordered solver.old }
     ensures some { result ≡ covers_some (meaning_of S.Solver solver.old) term }
     ensures meaning_kept { meaning_of S.Solver solver.new ≡ meaning_of S.Solver solver.old }
-    ensures ordered { S.Solver.ordered solver.new }
 {
     let literals = term.literals(solver.contacts());
-    match solver.ask(literals.as_slice()) {
-        Ok(found) => found.is_some(),
-        Err(_) => unreachable(),
-    }
+    witness(solver, literals.as_slice()).is_some()
 }
 
 // Keeps a term where it covers a setting that neither those kept nor those behind it cover.
 fn keep_next<S: Solver>(solver: &mut S, kept: &mut Table<Term, 64>, term: Term, later: &[Term])
-    requires ordered { S.Solver.ordered solver.old }
     requires room { length (items kept.old) < 64 }
     ensures next { items kept.new ≡ (if covers_some (with_terms (with_terms (without_bars (meaning_of S.Solver solver.old)) (items kept.old)) later.now) term then items kept.old ++ term ∷ [] else items kept.old) }
     ensures barred { meaning_of S.Solver solver.new ≡ with_terms (with_terms (without_bars (meaning_of S.Solver solver.old)) (items kept.old)) later.now }
-    ensures ordered { S.Solver.ordered solver.new }
 {
     solver.clear();
     bar_terms(solver, kept.as_slice());
@@ -64,10 +54,8 @@ fn keep_next<S: Solver>(solver: &mut S, kept: &mut Table<Term, 64>, term: Term, 
 
 // The terms that are kept, one after another from the first to the last.
 fn kept_of<S: Solver>(solver: &mut S, terms: &Table<Term, 64>) -> Table<Term, 64>
-    requires ordered { S.Solver.ordered solver.old }
     ensures standing { items result ≡ unstruck (without_bars (meaning_of S.Solver solver.old)) [] (items terms.now) }
     ensures bars_apart { without_bars (meaning_of S.Solver solver.new) ≡ without_bars (meaning_of S.Solver solver.old) }
-    ensures ordered { S.Solver.ordered solver.new }
 {
     let mut standing = Table::new(Term {
         closed: 0,
@@ -75,17 +63,15 @@ fn kept_of<S: Solver>(solver: &mut S, terms: &Table<Term, 64>) -> Table<Term, 64
     });
     let all = terms.as_slice();
     for (k, term) in all.iter().enumerate() {
-        keep_next(solver, &mut standing, *term, &all[k + 1..all.len()]);
+        keep_next(solver, &mut standing, *term, &all[k + 1..]);
     }
     standing
 }
 
 // Strikes each term, from the first to the last, where the others still standing cover every setting that it covers and MAKE allows. Bars of MAKE play no part, and it is left with none.
 pub fn strike<M: Solver>(make: &mut M, terms: &Table<Term, 64>) -> Table<Term, 64>
-    requires ordered { M.Solver.ordered make.old }
     ensures standing { items result ≡ unstruck (without_bars (meaning_of M.Solver make.old)) [] (items terms.now) }
     ensures bars_emptied { meaning_of M.Solver make.new ≡ without_bars (meaning_of M.Solver make.old) }
-    ensures ordered { M.Solver.ordered make.new }
 {
     let kept = kept_of(make, terms);
     make.clear();

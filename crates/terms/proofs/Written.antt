@@ -11,7 +11,7 @@ use Rattle.laws.specs.Terms.{Outcome, made, shared, full, terms}
 use Rattle.laws.proofs.Terms.{terms_law}
 use Rattle.solver.specs.Meaning.{Meaning, stands}
 use Rattle.sheets.specs.Sheets.{SheetMeaning}
-use Rattle.sheets.specs.Entries.{entries_counted, entries_written}
+use Rattle.sheets.specs.Answers.{counted, written}
 use Rattle.sheets.proofs.Written.{over_front}
 use Rattle.striking.proofs.Bars.{no_bars}
 use Rattle.terms.specs.Answers.{recorded, terms_answer, TermsLaw}
@@ -29,7 +29,7 @@ module _ (p q : SheetMeaning) (out : List Term) where
   abbrev by : Bool → Bool → Outcome → Result (List Term) SheetFault
   by same short o = cond same (cond short (Err ShortBuffer) (recorded n o)) (Err OtherContacts)
 
-  law_so : (same short : Bool) → ltb (length out) 64 ≡ short → (o : Outcome) → Settled n (stands p.meaning) (stands q.meaning) o → TermsLaw p q (entries_written (by same short o) out) (entries_counted (by same short o))
+  law_so : (same short : Bool) → ltb (length out) 64 ≡ short → (o : Outcome) → Settled n (stands p.meaning) (stands q.meaning) o → TermsLaw p q (written (by same short o) out) (counted (by same short o))
   law_so false short h o s =
       record { accepted = λ count k. absurd (absurd_zero (cc)); both_allow = λ place k. absurd (absurd_zero (cc)); too_many = λ k. absurd (absurd_zero (cc)) }
   law_so true true h o s =
@@ -58,10 +58,10 @@ module _ (p q : SheetMeaning) (out : List Term) where
   law_so true false h full s =
       record { accepted = λ count k. absurd (absurd_zero (cc)); both_allow = λ place k. absurd (absurd_zero (cc)); too_many = λ k. s }
 
-  pub terms_written : (after : List Term) (r : Result ℕ SheetFault) → after ≡ entries_written (terms_answer p q (length out)) out → r ≡ entries_counted (terms_answer p q (length out)) → TermsLaw p q after r
+  pub terms_written : (after : List Term) (r : Result ℕ SheetFault) → after ≡ written (terms_answer p q (length out)) out → r ≡ counted (terms_answer p q (length out)) → TermsLaw p q after r
   terms_written after r buffer answer =
       let law = law_so (eqb n q.meaning.contacts) (ltb (length out) 64) refl (terms n (stands p.meaning) (stands q.meaning)) (terms_law n (stands p.meaning) (stands q.meaning)) in
-      subst (λ t. TermsLaw p q t r) (sym buffer) (subst (TermsLaw p q (entries_written (terms_answer p q (length out)) out)) (sym answer) law)
+      subst (λ t. TermsLaw p q t r) (sym buffer) (subst (TermsLaw p q (written (terms_answer p q (length out)) out)) (sym answer) law)
 
   -- MAKE holds no bar, so the steps as they are taken are those of the answer
   pub steps_told : p.meaning.bars ≡ [] → terms_steps p.meaning q.meaning (length out) ≡ terms_answer p q (length out)

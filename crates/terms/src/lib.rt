@@ -5,8 +5,8 @@ ghost use Rattle.std.specs.Prelude.{◌≡◌, [], length};
 ghost use Rattle.tables.specs.Tables.{items};
 ghost use Rattle.solver.specs.Meaning.{without_bars};
 ghost use Rattle.solver.specs.Over.{meaning_of};
-ghost use Rattle.sheets.specs.Sheets.{sheet_meaning, InOrder};
-ghost use Rattle.sheets.specs.Entries.{entries_counted, entries_written};
+ghost use Rattle.sheets.specs.Sheets.{sheet_meaning};
+ghost use Rattle.sheets.specs.Answers.{counted, written};
 ghost use Rattle.terms.specs.Steps.{term_for, placed, turn, last_after, gathered, card_steps, terms_steps, listed_terms};
 ghost use Rattle.terms.specs.Answers.{terms_answer, TermsLaw};
 
@@ -23,10 +23,8 @@ use tables::table::Table;
 // Steps 2 and 3: the term for a setting's literals, which is WHY's choice of them, or the refusal of a setting that BREAK allows.
 // There is a reason exactly where BREAK does not allow the setting, so one ask serves both steps.
 fn term_for<B: Solver>(brk: &mut B, setting: &Table<i8, 32>) -> Result<Term, SheetFault>
-    requires ordered { B.Solver.ordered brk.old }
     ensures answer { result ≡ term_for (meaning_of B.Solver brk.old) (items setting.now) }
     ensures meaning_kept { meaning_of B.Solver brk.new ≡ meaning_of B.Solver brk.old }
-    ensures ordered { B.Solver.ordered brk.new }
 {
     let n = brk.contacts();
     match reason(brk, setting)? {
@@ -41,11 +39,9 @@ fn place_term<M: Solver>(
     terms: &mut Table<Term, 64>,
     term: Term,
 ) -> Result<bool, SheetFault>
-    requires ordered { M.Solver.ordered make.old }
     ensures answer { result ≡ (placed (meaning_of M.Solver make.old) (items terms.old) term).answer }
     ensures placed { items terms.new ≡ (placed (meaning_of M.Solver make.old) (items terms.old) term).terms }
     ensures barred { meaning_of M.Solver make.new ≡ (placed (meaning_of M.Solver make.old) (items terms.old) term).make }
-    ensures ordered { M.Solver.ordered make.new }
 {
     if terms.len() >= 64 {
         return Err(SheetFault::TooManyTerms);
@@ -62,15 +58,11 @@ fn next_term<M: Solver, B: Solver>(
     last: &mut Table<i8, 32>,
     terms: &mut Table<Term, 64>,
 ) -> Result<bool, SheetFault>
-    requires make_ordered { M.Solver.ordered make.old }
-    requires break_ordered { B.Solver.ordered brk.old }
     ensures answer { result ≡ (turn (meaning_of M.Solver make.old) (meaning_of B.Solver brk.old) (items last.old) (items terms.old)).answer }
     ensures placed { items terms.new ≡ (turn (meaning_of M.Solver make.old) (meaning_of B.Solver brk.old) (items last.old) (items terms.old)).terms }
     ensures barred { meaning_of M.Solver make.new ≡ (turn (meaning_of M.Solver make.old) (meaning_of B.Solver brk.old) (items last.old) (items terms.old)).make }
     ensures last { items last.new ≡ last_after (meaning_of M.Solver make.old) (meaning_of B.Solver brk.old) (items last.old) }
     ensures break_kept { meaning_of B.Solver brk.new ≡ meaning_of B.Solver brk.old }
-    ensures make_ordered { M.Solver.ordered make.new }
-    ensures break_ordered { B.Solver.ordered brk.new }
 {
     match pick(make, last) {
         None => Ok(false),
@@ -84,15 +76,11 @@ fn next_term<M: Solver, B: Solver>(
 
 // Steps 1 to 3 over and over, from no term on; MAKE is left with a bar for each term.
 fn gather<M: Solver, B: Solver>(make: &mut M, brk: &mut B) -> Result<Table<Term, 64>, SheetFault>
-    requires make_ordered { M.Solver.ordered make.old }
-    requires break_ordered { B.Solver.ordered brk.old }
     requires same_contacts { M.Solver.size make.old ≡ B.Solver.size brk.old }
     requires no_bars { M.Solver.bars make.old ≡ [] }
     ensures answer { listed_terms result ≡ gathered (without_bars (meaning_of M.Solver make.old)) (meaning_of B.Solver brk.old) }
     ensures bars_apart { without_bars (meaning_of M.Solver make.new) ≡ without_bars (meaning_of M.Solver make.old) }
     ensures break_kept { meaning_of B.Solver brk.new ≡ meaning_of B.Solver brk.old }
-    ensures make_ordered { M.Solver.ordered make.new }
-    ensures break_ordered { B.Solver.ordered brk.new }
 {
     let mut last = Table::new(0);
     let mut terms = Table::new(Term {
@@ -113,15 +101,11 @@ fn gather<M: Solver, B: Solver>(make: &mut M, brk: &mut B) -> Result<Table<Term,
 
 // The terms of two solvers, made and struck; MAKE is left with no bar.
 fn card<M: Solver, B: Solver>(make: &mut M, brk: &mut B) -> Result<Table<Term, 64>, SheetFault>
-    requires make_ordered { M.Solver.ordered make.old }
-    requires break_ordered { B.Solver.ordered brk.old }
     requires same_contacts { M.Solver.size make.old ≡ B.Solver.size brk.old }
     requires no_bars { M.Solver.bars make.old ≡ [] }
     ensures answer { listed_terms result ≡ card_steps (without_bars (meaning_of M.Solver make.old)) (meaning_of B.Solver brk.old) }
     ensures bars_emptied { meaning_of M.Solver make.new ≡ without_bars (meaning_of M.Solver make.old) }
     ensures break_kept { meaning_of B.Solver brk.new ≡ meaning_of B.Solver brk.old }
-    ensures make_ordered { M.Solver.ordered make.new }
-    ensures break_ordered { B.Solver.ordered brk.new }
 {
     let gathered = gather(make, brk);
     make.clear();
@@ -135,14 +119,10 @@ fn write_terms<M: Solver, B: Solver>(
     brk: &mut Sheet<B>,
     out: &mut [Term],
 ) -> Result<usize, SheetFault>
-    requires make_in_order { InOrder M.Solver make.old }
-    requires break_in_order { InOrder B.Solver brk.old }
-    ensures answer { result ≡ entries_counted (terms_steps (meaning_of M.Solver make.old.solver) (meaning_of B.Solver brk.old.solver) (length out.old)) }
-    ensures buffer { out.new ≡ entries_written (terms_steps (meaning_of M.Solver make.old.solver) (meaning_of B.Solver brk.old.solver) (length out.old)) out.old }
+    ensures answer { result ≡ counted (terms_steps (meaning_of M.Solver make.old.solver) (meaning_of B.Solver brk.old.solver) (length out.old)) }
+    ensures buffer { out.new ≡ written (terms_steps (meaning_of M.Solver make.old.solver) (meaning_of B.Solver brk.old.solver) (length out.old)) out.old }
     ensures make_kept { sheet_meaning M.Solver make.new ≡ sheet_meaning M.Solver make.old }
     ensures break_kept { sheet_meaning B.Solver brk.new ≡ sheet_meaning B.Solver brk.old }
-    ensures make_in_order { InOrder M.Solver make.new }
-    ensures break_in_order { InOrder B.Solver brk.new }
 {
     if make.solver.contacts() != brk.solver.contacts() {
         return Err(SheetFault::OtherContacts);
@@ -162,15 +142,11 @@ pub fn terms<M: Solver, B: Solver>(
     brk: &mut Sheet<B>,
     out: &mut [Term],
 ) -> Result<usize, SheetFault>
-    requires make_in_order { InOrder M.Solver make.old }
-    requires break_in_order { InOrder B.Solver brk.old }
-    ensures answer { result ≡ entries_counted (terms_answer (sheet_meaning M.Solver make.old) (sheet_meaning B.Solver brk.old) (length out.old)) }
-    ensures buffer { out.new ≡ entries_written (terms_answer (sheet_meaning M.Solver make.old) (sheet_meaning B.Solver brk.old) (length out.old)) out.old }
+    ensures answer { result ≡ counted (terms_answer (sheet_meaning M.Solver make.old) (sheet_meaning B.Solver brk.old) (length out.old)) }
+    ensures buffer { out.new ≡ written (terms_answer (sheet_meaning M.Solver make.old) (sheet_meaning B.Solver brk.old) (length out.old)) out.old }
     ensures card { TermsLaw (sheet_meaning M.Solver make.old) (sheet_meaning B.Solver brk.old) out.new result }
     ensures make_kept { sheet_meaning M.Solver make.new ≡ sheet_meaning M.Solver make.old }
     ensures break_kept { sheet_meaning B.Solver brk.new ≡ sheet_meaning B.Solver brk.old }
-    ensures make_in_order { InOrder M.Solver make.new }
-    ensures break_in_order { InOrder B.Solver brk.new }
 {
     write_terms(make, brk, out)
 }

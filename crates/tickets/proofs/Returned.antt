@@ -1,6 +1,5 @@
 -- Giving the first ticket back.
-use Rattle.std.proofs.Common.{◌≡◌, ◌<◌, true, eqb, ltb, List, [], ◌∷◌, map, length, get_or, is_some, Some, sym, refl, ap, ◌∙◌, arith}
-use Rattle.std.specs.List.{remove}
+use Rattle.std.proofs.Common.{◌≡◌, true, eqb, ltb, List, [], ◌∷◌, map, length, is_some, Some, sym, refl, ap, ◌∙◌, arith}
 use Rattle.std.proofs.lemmas.Bool.{cond-true, eq-eqb, lt-ltb}
 use Rattle.tables.specs.Tables.{without}
 use Rattle.sheets.specs.declared.Held.{Held}
@@ -14,15 +13,16 @@ pub record Returned (p : SheetMeaning) (t : Ticket) (others : List Ticket) : Typ
   pub left : others ≡ tickets_of (after_release p (held_at p t))
   pub kept : none_held (after_release p (held_at p t)) ≡ none_held p
 
-pub first_returned : (p : SheetMeaning) (ts : List Ticket) (t : Ticket) → 0 < length ts → ts ≡ tickets_of p → t ≡ get_or ts 0 t → Returned p t (remove ts 0)
-first_returned p ts t some own first = go p.held refl
+pub first_returned : (p : SheetMeaning) (t : Ticket) (ts : List Ticket) → t ∷ ts ≡ tickets_of p → Returned p t ts
+first_returned p t ts own = go p.held refl
   where
-    go : (hs : List Held) → p.held ≡ hs → Returned p t (remove ts 0)
+    go : (hs : List Held) → p.held ≡ hs → Returned p t ts
     go [] e = absurd (omega (arith, ap length (own ∙ ap (map (ticket_for p.label)) e)))
     go (h ∷ hs) e =
         let label = p.label in
-        let all : ts ≡ ticket_for label h ∷ map (ticket_for label) hs = own ∙ ap (map (ticket_for label)) e in
-        let mine : t ≡ ticket_for label h = first ∙ ap (λ l. get_or l 0 t) all in
+        let all : t ∷ ts ≡ ticket_for label h ∷ map (ticket_for label) hs = own ∙ ap (map (ticket_for label)) e in
+        let mine : t ≡ ticket_for label h = cc in
+        let others : ts ≡ map (ticket_for label) hs = cc in
         let at : held_at p t ≡ Some 0 =
         ap (held_at p) mine
         ∙ cond-true (eqb label label) _ _ (eq-eqb label label refl)
@@ -31,7 +31,7 @@ first_returned p ts t some own first = go p.held refl
         let gone : without p.held 0 ≡ hs = ap (λ l. without l 0) e ∙ cond-true (ltb 0 (length (h ∷ hs))) _ _ (lt-ltb 0 (length (h ∷ hs)) (omega arith)) in
         record {
           held = ap is_some at;
-          left = ap (λ l. remove l 0) all ∙ ap (map (ticket_for label)) (sym gone) ∙ ap (λ o. tickets_of (after_release p o)) (sym at);
+          left = others ∙ ap (map (ticket_for label)) (sym gone) ∙ ap (λ o. tickets_of (after_release p o)) (sym at);
           kept = ap (λ o. none_held (after_release p o)) at;
         }
 

@@ -1,9 +1,8 @@
 -- Tickets that are kept until their sheet accepts them back.
-use Rattle.std.specs.Prelude.{ℕ, suc, cond, List, [], ◌∷◌, map, Some, None, vec_items, Option, ◌==◌}
-use Rattle.std.specs.Option.{option_map}
+use Rattle.std.specs.Prelude.{ℕ, List, [], map, vec_items, Option, ◌==◌}
 use Rattle.sheets.specs.declared.Held.{Held}
 use Rattle.sheets.specs.declared.Ticket.{Ticket}
-use Rattle.sheets.specs.Sheets.{SheetMeaning}
+use Rattle.sheets.specs.Sheets.{SheetMeaning, first_place}
 use Rattle.tickets.specs.declared.list.Tickets.{Tickets}
 
 abbrev pub listed : Tickets → List Ticket
@@ -11,8 +10,7 @@ listed t = vec_items t.kept
 
 -- the place of the first ticket with a number
 abbrev pub place_of : ℕ → List Ticket → Option ℕ
-place_of number [] = None
-place_of number (t ∷ ts) = cond (t.number == number) (Some 0) (option_map suc (place_of number ts))
+place_of number ts = first_place (λ t. t.number == number) ts
 
 -- the tickets that a sheet has given out and not accepted back: one for each assumption that it holds, in held order
 abbrev pub ticket_for : ℕ → Held → Ticket

@@ -1,13 +1,14 @@
 // Keeping tickets and giving them back.
 ghost use Rattle.std.specs.Prelude.{◌≡◌, ◌<◌, ◌≤◌, [], ◌∷◌, ◌++◌, length, IfOk, slice_index_or};
 ghost use Rattle.std.specs.List.{remove, insert};
-ghost use Rattle.sheets.specs.Sheets.{sheet_meaning, InOrder};
+ghost use Rattle.sheets.specs.Sheets.{sheet_meaning};
 ghost use Rattle.tickets.specs.Tickets.{listed, place_of, tickets_of, none_held};
 
 use super::Tickets;
 use sheets::{Sheet, Ticket};
 use solver::Solver;
 use std::alloc::{AllocError, Global};
+use std::collections::VecDeque;
 use trials::give_back;
 
 // A sheet holds at most this many assumptions.
@@ -17,22 +18,18 @@ const MOST: usize = 32;
 fn find_number(tickets: &[Ticket], number: u16) -> Option<usize>
     ensures first { result ≡ place_of number tickets.now }
 {
-    for (place, ticket) in tickets.iter().enumerate() {
-        if ticket.number() == number {
-            return Some(place);
-        }
-    }
-    None
+    tickets.iter().position(|ticket| ticket.number() == number)
 }
 
-fn give_each_back<S: Solver>(mut left: Vec<Ticket>, sheet: &mut Sheet<S>)
-    requires in_order { InOrder S.Solver sheet.old }
-    requires its_own { left.items ≡ tickets_of (sheet_meaning S.Solver sheet.old) }
+// Gives the tickets back to the sheet that they came from, the first one first.
+fn give_each_back<S: Solver>(tickets: Vec<Ticket>, sheet: &mut Sheet<S>)
+    requires its_own { tickets.items ≡ tickets_of (sheet_meaning S.Solver sheet.old) }
     ensures released { sheet_meaning S.Solver sheet.new ≡ none_held (sheet_meaning S.Solver sheet.old) }
-    ensures in_order { InOrder S.Solver sheet.new }
 {
-    while !left.is_empty() {
-        give_back(sheet, left.remove(0));
+    // no `for`: an iterator drops what it leaves, and a ticket cannot be dropped
+    let mut left = VecDeque::from(tickets);
+    while let Some(ticket) = left.pop_front() {
+        give_back(sheet, ticket);
     }
     left.destroy_empty();
 }
@@ -91,10 +88,8 @@ impl Tickets {
 
     // Gives all tickets back to the sheet that they came from, which refuses none of them.
     pub fn give_all_back<S: Solver>(self, sheet: &mut Sheet<S>)
-        requires in_order { InOrder S.Solver sheet.old }
         requires its_own { listed self ≡ tickets_of (sheet_meaning S.Solver sheet.old) }
         ensures released { sheet_meaning S.Solver sheet.new ≡ none_held (sheet_meaning S.Solver sheet.old) }
-        ensures in_order { InOrder S.Solver sheet.new }
     {
         let Tickets { kept } = self;
         give_each_back(kept, sheet);

@@ -2,8 +2,8 @@
 #![tactic(auto)]
 
 ghost use Rattle.std.specs.Prelude.{◌≡◌, true, length, is_some};
-ghost use Rattle.sheets.specs.Sheets.{sheet_meaning, InOrder, held_at, after_release};
-ghost use Rattle.sheets.specs.Answers.{least_answer, why_answer, counted, written};
+ghost use Rattle.sheets.specs.Sheets.{sheet_meaning, held_at, after_release};
+ghost use Rattle.sheets.specs.Answers.{counted, written};
 ghost use Rattle.trials.specs.Trials.{answer_to, answer_under, after_trial};
 
 use faults::SheetFault;
@@ -12,17 +12,15 @@ use solver::Solver;
 
 // A question to a sheet that is answered with literals in a buffer.
 #[derive(Clone, Copy)]
-enum Question {
+pub enum Question {
     Least,
     Why,
 }
 
 // Gives the ticket of a held assumption back: RELEASE cannot refuse it.
 pub fn give_back<S: Solver>(sheet: &mut Sheet<S>, ticket: Ticket)
-    requires in_order { InOrder S.Solver sheet.old }
     requires held { is_some (held_at (sheet_meaning S.Solver sheet.old) ticket) ≡ true }
     ensures released { sheet_meaning S.Solver sheet.new ≡ after_release (sheet_meaning S.Solver sheet.old) (held_at (sheet_meaning S.Solver sheet.old) ticket) }
-    ensures in_order { InOrder S.Solver sheet.new }
 {
     match sheet.release(ticket) {
         Ok(()) => (),
@@ -36,11 +34,9 @@ fn put<S: Solver>(
     question: Question,
     out: &mut [i8],
 ) -> Result<usize, SheetFault>
-    requires in_order { InOrder S.Solver sheet.old }
     ensures answer { result ≡ counted (answer_to question (length out.old) (sheet_meaning S.Solver sheet.old)) }
     ensures buffer { out.new ≡ written (answer_to question (length out.old) (sheet_meaning S.Solver sheet.old)) out.old }
     ensures meaning_kept { sheet_meaning S.Solver sheet.new ≡ sheet_meaning S.Solver sheet.old }
-    ensures in_order { InOrder S.Solver sheet.new }
 {
     match question {
         Question::Least => {
@@ -51,56 +47,24 @@ fn put<S: Solver>(
     }
 }
 
-// Assumes the literals one after the other, puts the question, and gives the tickets back.
-fn put_under<S: Solver>(
+// The question while the literals are held too: they are assumed one after the other, and at the end their tickets are given back. It answers how many literals were written.
+pub fn ask_under<S: Solver>(
     sheet: &mut Sheet<S>,
     question: Question,
     literals: &[i8],
     out: &mut [i8],
 ) -> Result<usize, SheetFault>
-    requires in_order { InOrder S.Solver sheet.old }
     ensures answer { result ≡ counted (answer_under (answer_to question (length out.old)) (sheet_meaning S.Solver sheet.old) literals.now) }
     ensures buffer { out.new ≡ written (answer_under (answer_to question (length out.old)) (sheet_meaning S.Solver sheet.old) literals.now) out.old }
     ensures given_back { sheet_meaning S.Solver sheet.new ≡ after_trial (sheet_meaning S.Solver sheet.old) literals.now }
-    ensures in_order { InOrder S.Solver sheet.new }
 {
     match literals.split_first() {
         None => put(sheet, question, out),
         Some((first, rest)) => {
             let ticket = sheet.assume(*first)?;
-            let answer = put_under(sheet, question, rest, out);
+            let answer = ask_under(sheet, question, rest, out);
             give_back(sheet, ticket);
             answer
         }
     }
-}
-
-// LEAST while the literals are held too; it answers how many literals it wrote.
-pub fn least_under<S: Solver>(
-    sheet: &mut Sheet<S>,
-    literals: &[i8],
-    out: &mut [i8],
-) -> Result<usize, SheetFault>
-    requires in_order { InOrder S.Solver sheet.old }
-    ensures answer { result ≡ counted (answer_under (λ p. least_answer p (length out.old)) (sheet_meaning S.Solver sheet.old) literals.now) }
-    ensures buffer { out.new ≡ written (answer_under (λ p. least_answer p (length out.old)) (sheet_meaning S.Solver sheet.old) literals.now) out.old }
-    ensures given_back { sheet_meaning S.Solver sheet.new ≡ after_trial (sheet_meaning S.Solver sheet.old) literals.now }
-    ensures in_order { InOrder S.Solver sheet.new }
-{
-    put_under(sheet, Question::Least, literals, out)
-}
-
-// WHY while the literals are held too; it answers how many literals it wrote.
-pub fn why_under<S: Solver>(
-    sheet: &mut Sheet<S>,
-    literals: &[i8],
-    out: &mut [i8],
-) -> Result<usize, SheetFault>
-    requires in_order { InOrder S.Solver sheet.old }
-    ensures answer { result ≡ counted (answer_under (λ p. why_answer p (length out.old)) (sheet_meaning S.Solver sheet.old) literals.now) }
-    ensures buffer { out.new ≡ written (answer_under (λ p. why_answer p (length out.old)) (sheet_meaning S.Solver sheet.old) literals.now) out.old }
-    ensures given_back { sheet_meaning S.Solver sheet.new ≡ after_trial (sheet_meaning S.Solver sheet.old) literals.now }
-    ensures in_order { InOrder S.Solver sheet.new }
-{
-    put_under(sheet, Question::Why, literals, out)
 }

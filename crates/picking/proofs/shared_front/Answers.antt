@@ -51,18 +51,16 @@ returns-then-not-extend_front g c =
     record {
       shared = front_stops (mean g v) (near g v) (k g v) (front g v) (within g v) c.loop-literal.invariant.0 (next g v) (told g v _ c.if-not-extend_front.true) (placed g v);
       meaning_kept = kept g v;
-      ordered = c.extend_front.ensures.ordered;
     }
 
 pub loop-literal-preserved : goal.loop-literal-preserved
 loop-literal-preserved g c =
     let v = (goal.at.loop-literal-preserved g c).After-extend_front in
-    (front_more (mean g v) (near g v) (k g v) (front g v) (within g v) c.loop-literal.invariant.0 (next g v) (told g v _ c.if-not-extend_front.false) (placed g v), kept g v, c.extend_front.ensures.ordered)
+    (front_more (mean g v) (near g v) (k g v) (front g v) (within g v) c.loop-literal.invariant.0 (next g v) (told g v _ c.if-not-extend_front.false) (placed g v), kept g v)
 
 pub returns : goal.returns
 returns g c =
     record {
       shared = front_all (meaning_of g.S.Solver c.args.solver.now) (items c.args.near.now) c.loop-literal.literal-index (items c.loop-literal.front) (omega (arith, c.loop-literal-test.false, ap length c.as_slice-literal-items.ensures.entries)) c.loop-literal.invariant.0;
       meaning_kept = c.loop-literal.invariant.1;
-      ordered = c.loop-literal.invariant.2;
     }

@@ -8,4 +8,3 @@ abbrev pub invariant-loop-literal : goal.invariant-loop-literal
 invariant-loop-literal g l =
     FrontSoFar (meaning_of g.S.Solver l.initial.solver) (items l.near) l.literal-index (items l.front)
     × (meaning_of g.S.Solver l.solver ≡ meaning_of g.S.Solver l.initial.solver)
-    × g.S.Solver.ordered l.solver

@@ -31,7 +31,7 @@ module _ (g : given.Over) (c : After-as_slice-all g) where
   one = some_from mean.contacts (stands_with mean all) (reading mean.contacts c.args.first) (length_reading mean.contacts c.args.first) first_shown
 
   few : mean.contacts ≤ 32
-  few = (g.S.Solver.few c.args.solver.now c.requires.ordered).1
+  few = (g.S.Solver.few c.args.solver.now).1
 
   start : Placed mean all 0 [] c.args.first
   start = placed_none mean all all_named one c.args.first first_shown
@@ -42,7 +42,7 @@ module _ (g : given.Over) (c : After-as_slice-all g) where
 pub loop-k-init : goal.loop-k-init
 loop-k-init g c =
     let v = (goal.at.loop-k-init g c).After-as_slice-all in
-    (subst (λ t. Placed (mean g v) (all g v) 0 t c.args.first) (sym c.new-placed.ensures.empty) (start g v), refl, c.requires.ordered)
+    (subst (λ t. Placed (mean g v) (all g v) 0 t c.args.first) (sym c.new-placed.ensures.empty) (start g v), refl)
 
 pub place_next-requires : goal.place_next-requires
 place_next-requires g c =
@@ -50,7 +50,6 @@ place_next-requires g c =
     let k = c.loop-k.k in
     let lt : k < g.S.Solver.size c.args.solver.now = omega (arith, c.loop-k-test.true, c.contacts-n.ensures.count) in
     record {
-      ordered = c.loop-k.invariant.2;
       few = omega (arith, ap length c.as_slice-all.ensures.entries, items-few c.args.held.now);
       contact = omega (arith, few g v);
       room = omega (arith, few g v, placed_length (mean g v) (all g v) (all_named g v) (one g v) k (items c.loop-k.placed) c.loop-k.last (omega arith) c.loop-k.invariant.0);
@@ -73,7 +72,6 @@ loop-k-preserved g c =
     let step = placed_next m held (all_named g v) (one g v) k its c.loop-k.last lt c.loop-k.invariant.0 r (items c.place_next.new.placed) found shown c.place_next.ensures.next in (
       subst (Placed m held _ (items c.place_next.new.placed)) (sym c.unwrap_or-last.ensures) step,
       c.place_next.ensures.meaning_kept ∙ same,
-      c.place_next.ensures.ordered,
     )
 
 pub returns : goal.returns
@@ -83,5 +81,4 @@ returns g c =
       earliest = placed_all (mean g v) (all g v) (all_named g v) (one g v) c.loop-k.k (items c.loop-k.placed) c.loop-k.last (omega (arith, c.loop-k-test.false, c.contacts-n.ensures.count)) c.loop-k.invariant.0
           ∙ ap (least_literals (mean g v)) c.as_slice-all.ensures.entries;
       meaning_kept = c.loop-k.invariant.1;
-      ordered = c.loop-k.invariant.2;
     }

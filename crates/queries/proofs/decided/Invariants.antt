@@ -8,4 +8,3 @@ abbrev pub invariant-loop-k : goal.invariant-loop-k
 invariant-loop-k g l =
     Placed (meaning_of g.S.Solver l.initial.solver) l.all l.k (items l.placed) l.last
     × (meaning_of g.S.Solver l.solver ≡ meaning_of g.S.Solver l.initial.solver)
-    × g.S.Solver.ordered l.solver

@@ -19,7 +19,6 @@ returns-in-None g c =
     record {
       answer = sym (ap (λ o. answered o (least_literals m held)) h.0 ∙ ap (λ o. Ok (option_map (literals 0) o)) none);
       meaning_kept = c.ask.ensures.meaning_kept;
-      ordered = c.ask.ensures.ordered;
     }
 
 pub decided-requires : goal.decided-requires
@@ -29,7 +28,6 @@ decided-requires g c =
     let h = told m c.as_slice.result.now held c.in_ok-ask.field-0 c.as_slice.ensures.entries c.in_ok-ask.ensures.answer in
     let same = c.ask.ensures.meaning_kept in
     record {
-      ordered = c.ask.ensures.ordered;
       named = ap (λ v. literal_fault v held) same ∙ h.0;
       shown = ap (λ v. stands_with v held (reading v.contacts c.in-Some.first)) same ∙ subst (Answers m held) c.in-Some.is h.1;
     }
@@ -43,5 +41,4 @@ returns-in-Some g c =
     record {
       answer = ap Ok (c.decided.ensures.earliest ∙ ap (λ v. least_literals v held) same) ∙ sym (ap (λ o. answered o (least_literals m held)) h.0);
       meaning_kept = c.decided.ensures.meaning_kept ∙ same;
-      ordered = c.decided.ensures.ordered;
     }

@@ -16,12 +16,11 @@ returns-then-agrees g c =
     let l = c.literal_of.result in
     let asked = opened_next c.args.held.now (items c.args.placed.now) k in
     let fit : SFits w8 l = search rules in
-    let wanted : to_z w8 (of_z w8 l) ≡ literal k false = to_z-of_z w8 l fit ∙ c.literal_of.ensures.wanted in
+    let wanted : to_z w8 (of_z w8 l) ≡ literal k false = to_z-of_z w8 l fit ∙ c.literal_of.ensures.agreeing in
     let open_there : agrees (reading m.contacts last) (literal k false) ≡ true = sym (ap₂ (λ n z. agrees (reading n last) z) c.contacts.ensures.count wanted) ∙ sym c.if-agrees.ensures.agreement in
     let h = c.requires.ready.serves open_there in
     record {
       found = answer-possible m asked (Some last) (c.requires.ready.named, h);
       shown = h;
       meaning_kept = refl;
-      ordered = c.requires.ordered;
     }

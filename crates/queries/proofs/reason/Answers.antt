@@ -27,7 +27,6 @@ returns-in-Some g c =
     record {
       answer = with_some m held c.in-Some.field-0 (h.0, subst (Answers m held) c.in-Some.is h.1);
       meaning_kept = c.ask.ensures.meaning_kept;
-      ordered = c.ask.ensures.ordered;
     }
 
 pub trimmed-requires : goal.trimmed-requires
@@ -35,7 +34,7 @@ trimmed-requires g c =
     let m = meaning_of g.S.Solver c.args.solver.now in
     let held = items c.args.held.now in
     let h = told m c.as_slice.result.now held c.in_ok-ask.field-0 c.as_slice.ensures.entries c.in_ok-ask.ensures.answer in
-    record { ordered = c.ask.ensures.ordered; named = ap (λ v. literal_fault v held) c.ask.ensures.meaning_kept ∙ h.0 }
+    record { named = ap (λ v. literal_fault v held) c.ask.ensures.meaning_kept ∙ h.0 }
 
 pub returns-in-None : goal.returns-in-None
 returns-in-None g c =
@@ -47,5 +46,4 @@ returns-in-None g c =
     record {
       answer = ap (λ t. Ok (Some t)) left ∙ with_none m held (h.0, subst (Answers m held) c.in-None.is h.1);
       meaning_kept = c.trimmed.ensures.meaning_kept ∙ same;
-      ordered = c.trimmed.ensures.ordered;
     }

@@ -21,7 +21,7 @@ all_named g c =
 pub loop-k-init : goal.loop-k-init
 loop-k-init g c =
     let m = meaning_of g.S.Solver c.args.solver.now in
-    (subst (Kept m c.as_slice-all.result.now 0) (sym c.new-choice.ensures.empty) (kept_none m c.as_slice-all.result.now (all_named g c)), refl, c.requires.ordered)
+    (subst (Kept m c.as_slice-all.result.now 0) (sym c.new-choice.ensures.empty) (kept_none m c.as_slice-all.result.now (all_named g c)), refl)
 
 pub keep_next-requires : goal.keep_next-requires
 keep_next-requires g c =
@@ -30,7 +30,6 @@ keep_next-requires g c =
     let few = items-few c.args.held.now in
     let lt = c.loop-k-test.true in
     record {
-      ordered = c.loop-k.invariant.2;
       room = omega (arith, ap length (take_rest all (k + 1)), length-drop (k + 1) all, ap length c.as_slice-all.ensures.entries, c.loop-k.invariant.0.few);
     }
 
@@ -46,7 +45,6 @@ loop-k-preserved g c =
     let step : items c.keep_next.new.kept ≡ cond (possible_with m (kept ++ drop (k + 1) all)) (kept ++ get_or all k (pos 0) ∷ []) kept = c.keep_next.ensures.next ∙ ap (λ z. cond (possible_with (meaning_of g.S.Solver c.loop-k.solver) (kept ++ take (length all - (k + 1)) (drop (k + 1) all))) (kept ++ z ∷ []) kept) read ∙ ap (λ t. cond (possible_with (meaning_of g.S.Solver c.loop-k.solver) (kept ++ t)) (kept ++ get_or all k (pos 0) ∷ []) kept) (take_rest all (k + 1)) ∙ ap (λ v. cond (possible_with v (kept ++ drop (k + 1) all)) (kept ++ get_or all k (pos 0) ∷ []) kept) same in (
       kept_next m all (all_named g (goal.at.loop-k-preserved g c).After-as_slice-all) k kept (items c.keep_next.new.kept) c.loop-k-test.true c.loop-k.invariant.0 step,
       c.keep_next.ensures.meaning_kept ∙ same,
-      c.keep_next.ensures.ordered,
     )
 
 pub returns : goal.returns
@@ -56,5 +54,4 @@ returns g c =
       left = kept_all m c.as_slice-all.result.now (all_named g (goal.at.returns g c).After-as_slice-all) c.loop-k.k (items c.loop-k.choice) c.loop-k-test.false c.loop-k.invariant.0
           ∙ ap (trim (enough m.contacts (stands m)) []) c.as_slice-all.ensures.entries;
       meaning_kept = c.loop-k.invariant.1;
-      ordered = c.loop-k.invariant.2;
     }

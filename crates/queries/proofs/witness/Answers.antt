@@ -9,7 +9,6 @@ returns-in-Ok g c =
       found = answer-possible m c.args.literals.now c.in-Ok.found c.in-Ok.ensures.answer;
       shown = answer-shown m c.args.literals.now c.in-Ok.found c.in-Ok.ensures.answer.1;
       meaning_kept = c.ask.ensures.meaning_kept;
-      ordered = c.ask.ensures.ordered;
     }
 
 pub returns-in-Err : goal.returns-in-Err
@@ -19,5 +18,4 @@ returns-in-Err g c =
       found = refused-impossible m c.args.literals.now c.in-Err.field-0 c.in-Err.ensures.answer;
       shown = tt;
       meaning_kept = c.ask.ensures.meaning_kept;
-      ordered = c.ask.ensures.ordered;
     }

@@ -24,16 +24,16 @@ module _ (g : given.Over) (c : After-as_slice-all g) where
   all_few = omega (arith, ap length c.as_slice-all.ensures.entries, items-few c.args.terms.now)
 
   small : mean.contacts ≤ 32
-  small = (g.S.Solver.few c.args.solver.now c.requires.ordered).1
+  small = (g.S.Solver.few c.args.solver.now).1
 
 pub loop-k-init : goal.loop-k-init
 loop-k-init g c =
-    (subst (Kept (without_bars (mean g c)) (all g c) 0) (sym c.new-standing.ensures.empty) (kept_none (without_bars (mean g c)) (all g c)), refl, c.requires.ordered)
+    (subst (Kept (without_bars (mean g c)) (all g c) 0) (sym c.new-standing.ensures.empty) (kept_none (without_bars (mean g c)) (all g c)), refl)
 
 pub keep_next-requires : goal.keep_next-requires
 keep_next-requires g c =
     let v = (goal.at.keep_next-requires g c).After-as_slice-all in
-    record { ordered = c.loop-k.invariant.2; room = omega (arith, c.loop-k.invariant.0.few, c.loop-k-test.true, all_few g v) }
+    record { room = omega (arith, c.loop-k.invariant.0.few, c.loop-k-test.true, all_few g v) }
 
 pub loop-k-preserved : goal.loop-k-preserved
 loop-k-preserved g c =
@@ -51,7 +51,6 @@ loop-k-preserved g c =
     let front : Meaning = with_terms (without_bars now) kept in (
       kept_next m ts (small g v) (all_few g v) k kept (items c.keep_next.new.kept) c.loop-k-test.true c.loop-k.invariant.0 step,
       ap without_bars c.keep_next.ensures.barred ∙ only_bars front later ∙ only_bars (without_bars now) kept ∙ same,
-      c.keep_next.ensures.ordered,
     )
 
 pub returns : goal.returns
@@ -61,5 +60,4 @@ returns g c =
       standing = kept_all (without_bars (mean g v)) (all g v) c.loop-k.k (items c.loop-k.standing) c.loop-k-test.false c.loop-k.invariant.0
           ∙ ap (unstruck (without_bars (mean g v)) []) c.as_slice-all.ensures.entries;
       bars_apart = c.loop-k.invariant.1;
-      ordered = c.loop-k.invariant.2;
     }

@@ -9,4 +9,3 @@ abbrev pub invariant-loop-k : goal.invariant-loop-k
 invariant-loop-k g l =
     Kept (without_bars (meaning_of g.S.Solver l.initial.solver)) l.all l.k (items l.standing)
     × (without_bars (meaning_of g.S.Solver l.solver) ≡ without_bars (meaning_of g.S.Solver l.initial.solver))
-    × g.S.Solver.ordered l.solver

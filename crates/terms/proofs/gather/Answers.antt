@@ -37,7 +37,7 @@ module _ (g : given.Over) (c : After-next_term g) where
   barred-after = meaning_of g.M.Solver c.next_term.new.make
 
   small : start.contacts ≤ 32
-  small = (g.M.Solver.few c.args.make.now c.requires.make_ordered).1
+  small = (g.M.Solver.few c.args.make.now).1
 
   ended : (r : Result Bool SheetFault) → c.next_term.result ≡ r → Turned start other so_far r after barred-after last_then
   ended r e =
@@ -55,10 +55,7 @@ pub loop-made-init : goal.loop-made-init
 loop-made-init g c =
     let m : Meaning = meaning_of g.M.Solver c.args.make.now in
     let b : Meaning = meaning_of g.B.Solver c.args.brk.now in
-    (subst (Making m b m (items c.new-terms.result)) (sym c.new-last.ensures.empty) (subst (λ ts. Making m b m ts []) (sym c.new-terms.ensures.empty) (making_none m b c.requires.no_bars)), refl, c.requires.make_ordered, c.requires.break_ordered)
-
-pub next_term-requires : goal.next_term-requires
-next_term-requires g c = record { make_ordered = c.loop-made.invariant.2; break_ordered = c.loop-made.invariant.3 }
+    (subst (Making m b m (items c.new-terms.result)) (sym c.new-last.ensures.empty) (subst (λ ts. Making m b m ts []) (sym c.new-terms.ensures.empty) (making_none m b c.requires.no_bars)), refl)
 
 pub returns-then-not-made : goal.returns-then-not-made
 returns-then-not-made g c =
@@ -67,8 +64,6 @@ returns-then-not-made g c =
       answer = ended g v (Ok false) (c.in-Ok.is ∙ ap Ok c.if-not-made.true);
       bars_apart = apart g v;
       break_kept = kept g v;
-      make_ordered = c.next_term.ensures.make_ordered;
-      break_ordered = c.next_term.ensures.break_ordered;
     }
 
 pub loop-made-smaller : goal.loop-made-smaller
@@ -80,7 +75,7 @@ loop-made-smaller g c =
 pub loop-made-preserved : goal.loop-made-preserved
 loop-made-preserved g c =
     let v = (goal.at.loop-made-preserved g c).After-next_term in
-    ((ended g v (Ok true) (c.in-Ok.is ∙ ap Ok c.if-not-made.false)).0, kept g v, c.next_term.ensures.make_ordered, c.next_term.ensures.break_ordered)
+    ((ended g v (Ok true) (c.in-Ok.is ∙ ap Ok c.if-not-made.false)).0, kept g v)
 
 pub returns-in-Err : goal.returns-in-Err
 returns-in-Err g c =
@@ -89,6 +84,4 @@ returns-in-Err g c =
       answer = ended g v (Err c.in-Err.fault) c.in-Err.is;
       bars_apart = apart g v;
       break_kept = kept g v;
-      make_ordered = c.next_term.ensures.make_ordered;
-      break_ordered = c.next_term.ensures.break_ordered;
     }

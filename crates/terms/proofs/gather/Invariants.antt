@@ -8,8 +8,6 @@ abbrev pub invariant-loop-made : goal.invariant-loop-made
 invariant-loop-made g l =
     Making (meaning_of g.M.Solver l.initial.make) (meaning_of g.B.Solver l.initial.brk) (meaning_of g.M.Solver l.make) (items l.terms) (items l.last)
     × (meaning_of g.B.Solver l.brk ≡ meaning_of g.B.Solver l.initial.brk)
-    × g.M.Solver.ordered l.make
-    × g.B.Solver.ordered l.brk
 
 abbrev pub decreases-loop-made : goal.decreases-loop-made
 decreases-loop-made g l = 64 - length (items l.terms)

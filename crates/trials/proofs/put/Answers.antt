@@ -16,5 +16,4 @@ returns-in_ok-least-in-Least g c =
       answer = ap Ok (c.contacts.ensures.count ∙ ap (λ m. m.meaning.contacts) kept) ∙ least_counted p size c.in_ok-least-in-Least.ensures.answer ∙ ap (λ q. counted (answer_to q size p)) (sym which);
       buffer = c.least.ensures.buffer ∙ ap (λ q. written (answer_to q size p) c.args.out.now) (sym which);
       meaning_kept = kept;
-      in_order = c.least.ensures.in_order;
     }

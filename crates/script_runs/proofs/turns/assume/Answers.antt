@@ -12,8 +12,8 @@ use Rattle.script_runs.proofs.turns.assume.Goals as goal
 
 pub keep-requires : goal.keep-requires
 keep-requires g c =
-    let m = sheet_meaning g.M.Solver c.args.make.now in
-    let b = sheet_meaning g.B.Solver c.args.brk.now in
+    let m = sheet_meaning g.M.Solver c.args.pair.now.make in
+    let b = sheet_meaning g.B.Solver c.args.pair.now.brk in
     let s = sided c.args.side m b in
     let t = c.in-Issued.ticket in
     let l = c.args.literal in
@@ -24,8 +24,8 @@ keep-requires g c =
 
 pub returns-in-Issued : goal.returns-in-Issued
 returns-in-Issued g c =
-    let m = sheet_meaning g.M.Solver c.args.make.now in
-    let b = sheet_meaning g.B.Solver c.args.brk.now in
+    let m = sheet_meaning g.M.Solver c.args.pair.now.make in
+    let b = sheet_meaning g.B.Solver c.args.pair.now.brk in
     let side = c.args.side in
     let l = c.args.literal in
     let fit : SFits w8 l = search rules in
@@ -34,8 +34,8 @@ returns-in-Issued g c =
     let t = c.in-Issued.ticket in
     let said : accepted (issued t) ≡ assume_reply s l = ap (λ a. accepted (answer_says a)) (sym c.in-Issued.is) ∙ c.in-Accepted.ensures.answer ∙ ap (assume_reply s) lit in
     let told = c.in-Accepted.ensures in
-    let make_now : sheet_meaning g.M.Solver c.put_assume.new.make ≡ make_assumed side m l = told.make_after ∙ ap (make_assumed side m) lit in
-    let break_now : sheet_meaning g.B.Solver c.put_assume.new.brk ≡ break_assumed side b l = told.break_after ∙ ap (break_assumed side b) lit in
+    let make_now : sheet_meaning g.M.Solver c.put_assume.new.pair.make ≡ make_assumed side m l = told.make_after ∙ ap (make_assumed side m) lit in
+    let break_now : sheet_meaning g.B.Solver c.put_assume.new.pair.brk ≡ break_assumed side b l = told.break_after ∙ ap (break_assumed side b) lit in
     let after = when_issued s l t (listed c.args.tickets.now) said c.requires.its_own in
     record {
       answer = ap (λ k. shown_issued k c.number.result) c.label.ensures.label ∙ ap (shown_issued t.label) c.number.ensures.number ∙ ap (shown 0) said;
@@ -45,15 +45,13 @@ returns-in-Issued g c =
           ∙ after.kept
           ∙ ap tickets_of (sym (sided_is side m b l))
           ∙ ap (λ x. tickets_of (sided side x (break_assumed side b l))) (sym make_now)
-          ∙ ap (λ x. tickets_of (sided side (sheet_meaning g.M.Solver c.put_assume.new.make) x)) (sym break_now);
-      make_in_order = told.make_in_order;
-      break_in_order = told.break_in_order;
+          ∙ ap (λ x. tickets_of (sided side (sheet_meaning g.M.Solver c.put_assume.new.pair.make) x)) (sym break_now);
     }
 
 pub returns-in-Nothing : goal.returns-in-Nothing
 returns-in-Nothing g c =
-    let m = sheet_meaning g.M.Solver c.args.make.now in
-    let b = sheet_meaning g.B.Solver c.args.brk.now in
+    let m = sheet_meaning g.M.Solver c.args.pair.now.make in
+    let b = sheet_meaning g.B.Solver c.args.pair.now.brk in
     let side = c.args.side in
     let l = c.args.literal in
     let fit : SFits w8 l = search rules in
@@ -62,8 +60,8 @@ returns-in-Nothing g c =
     let fault = sheet_refusal c.in-Refused.fault in
     let told = c.in-Refused.ensures in
     let said : denied fault nothing ≡ assume_reply s l = ap (λ r. denied fault (hands_back r)) (sym c.in-Nothing.is) ∙ told.answer ∙ ap (assume_reply s) lit in
-    let make_now : sheet_meaning g.M.Solver c.put_assume.new.make ≡ make_assumed side m l = told.make_after ∙ ap (make_assumed side m) lit in
-    let break_now : sheet_meaning g.B.Solver c.put_assume.new.brk ≡ break_assumed side b l = told.break_after ∙ ap (break_assumed side b) lit in
+    let make_now : sheet_meaning g.M.Solver c.put_assume.new.pair.make ≡ make_assumed side m l = told.make_after ∙ ap (make_assumed side m) lit in
+    let break_now : sheet_meaning g.B.Solver c.put_assume.new.pair.brk ≡ break_assumed side b l = told.break_after ∙ ap (break_assumed side b) lit in
     record {
       answer = ap refused c.refusal.ensures.numbered ∙ ap (shown 0) said;
       make_after = make_now;
@@ -71,7 +69,5 @@ returns-in-Nothing g c =
       its_own = when_refused s l fault nothing (listed c.args.tickets.now) said c.requires.its_own
           ∙ ap tickets_of (sym (sided_is side m b l))
           ∙ ap (λ x. tickets_of (sided side x (break_assumed side b l))) (sym make_now)
-          ∙ ap (λ x. tickets_of (sided side (sheet_meaning g.M.Solver c.put_assume.new.make) x)) (sym break_now);
-      make_in_order = told.make_in_order;
-      break_in_order = told.break_in_order;
+          ∙ ap (λ x. tickets_of (sided side (sheet_meaning g.M.Solver c.put_assume.new.pair.make) x)) (sym break_now);
     }

@@ -23,8 +23,8 @@ put_back-requires g c =
 
 pub returns-in-Done : goal.returns-in-Done
 returns-in-Done g c =
-    let m = sheet_meaning g.M.Solver c.args.make.now in
-    let b = sheet_meaning g.B.Solver c.args.brk.now in
+    let m = sheet_meaning g.M.Solver c.args.pair.now.make in
+    let b = sheet_meaning g.B.Solver c.args.pair.now.brk in
     let side = c.args.side in
     let s = sided side m b in
     let ts = listed c.args.tickets.now in
@@ -38,14 +38,12 @@ returns-in-Done g c =
       make_after = told.make_after ∙ ap (make_released side m) same;
       break_after = told.break_after ∙ ap (break_released side b) same;
       tickets = c.take-ticket.ensures.others ∙ spent s t ts place said ∙ ap (λ u. kept_after (held_at s u) ts place) same;
-      make_in_order = told.make_in_order;
-      break_in_order = told.break_in_order;
     }
 
 pub returns-in-Ticket : goal.returns-in-Ticket
 returns-in-Ticket g c =
-    let m = sheet_meaning g.M.Solver c.args.make.now in
-    let b = sheet_meaning g.B.Solver c.args.brk.now in
+    let m = sheet_meaning g.M.Solver c.args.pair.now.make in
+    let b = sheet_meaning g.B.Solver c.args.pair.now.brk in
     let side = c.args.side in
     let s = sided side m b in
     let ts = listed c.args.tickets.now in
@@ -66,6 +64,4 @@ returns-in-Ticket g c =
           ∙ ap (insert (remove ts place) place) (back.0 ∙ same)
           ∙ put_again ts place _ c.requires.there
           ∙ sym (ap (λ o. kept_after o ts place) (ap (held_at s) (sym same) ∙ back.1));
-      make_in_order = told.make_in_order;
-      break_in_order = told.break_in_order;
     }

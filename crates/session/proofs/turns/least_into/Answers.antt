@@ -12,5 +12,4 @@ returns g c =
       answer = c.least.ensures.answer ∙ ap (λ out. told (least_answer meaning (length out))) lent;
       buffer = came_back _ _ _ (omega arith) ∙ c.least.ensures.buffer ∙ ap (λ out. written (least_answer meaning (length out)) out) lent;
       meaning_kept = c.least.ensures.meaning_kept;
-      in_order = c.least.ensures.in_order;
     }

@@ -12,5 +12,4 @@ returns g c =
       answer = c.why.ensures.answer ∙ ap (λ out. counted (why_answer meaning (length out))) lent;
       buffer = came_back _ _ _ (omega arith) ∙ c.why.ensures.buffer ∙ ap (λ out. written (why_answer meaning (length out)) out) lent;
       meaning_kept = c.why.ensures.meaning_kept;
-      in_order = c.why.ensures.in_order;
     }

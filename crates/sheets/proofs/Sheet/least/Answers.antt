@@ -9,5 +9,4 @@ returns g c =
       buffer = c.write_least.ensures.buffer;
       earliest = least_written (sheet_meaning g.S.Solver c.args.self.now) c.args.out.now c.write_least.new.out c.write_least.result c.write_least.ensures.buffer c.write_least.ensures.answer;
       meaning_kept = c.write_least.ensures.meaning_kept;
-      in_order = c.write_least.ensures.in_order;
     }

@@ -9,5 +9,4 @@ returns g c =
       buffer = c.write_why.ensures.buffer;
       smallest = why_written (sheet_meaning g.S.Solver c.args.self.now) c.args.out.now c.write_why.new.out c.write_why.result c.write_why.ensures.buffer c.write_why.ensures.answer;
       meaning_kept = c.write_why.ensures.meaning_kept;
-      in_order = c.write_why.ensures.in_order;
     }

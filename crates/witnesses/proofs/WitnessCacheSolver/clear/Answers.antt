@@ -1,15 +1,11 @@
-use Rattle.std.proofs.Common.{◌≡◌, true, sym, refl, subst}
+use Rattle.std.proofs.Common.{◌≡◌, true, sym, subst}
 use Rattle.tables.specs.Tables.{items}
 use Rattle.solver.specs.Over.{meaning_of}
 use Rattle.witnesses.specs.Witnesses.{all_stand}
 use Rattle.witnesses.proofs.Standing.{all_cleared}
 use Rattle.witnesses.proofs.WitnessCacheSolver.clear.Goals as goal
 
-pub returns : goal.returns
-returns g c =
+pub invariant_of-self : goal.invariant_of-self
+invariant_of-self g c =
     let held = items c.args.self.now.seen in
-    record {
-      bars_emptied = c.clear.ensures.bars_emptied;
-      ordered = (c.clear.ensures.ordered, subst (λ m. all_stand m held ≡ true) (sym c.clear.ensures.bars_emptied) (all_cleared (meaning_of g.S.Solver c.args.self.now.below) held c.requires.ordered.1));
-      held_kept = refl;
-    }
+    record { standing = subst (λ m. all_stand m held ≡ true) (sym c.clear.ensures.bars_emptied) (all_cleared (meaning_of g.S.Solver c.args.self.now.below) held c.args.self.now.standing) }
