@@ -122,9 +122,7 @@ impl<'a> Solver for ClauseSolver<'a> {
 
     ghost bars = { clause_bars };
 
-    ghost ordered = { λ s. Unit {0} };
-
-    ghost few = { λ s o. (s.counts.some_contact, s.counts.few_contacts) };
+    ghost few = { λ s. (s.counts.some_contact, s.counts.few_contacts) };
 
     fn contacts(&self) -> usize {
         usize::from(self.counts.contacts)

@@ -178,9 +178,7 @@ impl<'a> Solver for GateSolver<'a> {
 
     ghost bars = { gate_bars };
 
-    ghost ordered = { λ s. Unit {0} };
-
-    ghost few = { λ s o. (s.circuit.some_input, s.circuit.few_inputs) };
+    ghost few = { λ s. (s.circuit.some_input, s.circuit.few_inputs) };
 
     fn contacts(&self) -> usize {
         usize::from(self.circuit.inputs)
