@@ -1,140 +1,104 @@
 // What the solvers answer, and what is due by a plain look through all settings.
 use crate::network::Network;
-use aiger::Gate;
 use clauses::ClauseSolver;
 use clauses::counts::VariableCounts;
+use faults::SheetFault;
 use gates::GateSolver;
 use literals::LiteralSet;
+use networks::readable;
 use settings::Setting;
 use sheets::Sheet;
 use solver::{ContactCount, Solver};
 use tables::table::Table;
-use trials::{least_under, why_under};
+use trials::{Question, ask_under};
 use witnesses::WitnessCache;
 
-// The literals that LEAST wrote, and those that WHY did; 0 where there is none.
-#[derive(Drop)]
+// What LEAST and WHY answer while three literals are held, each with its whole buffer.
+#[derive(Clone, Copy, PartialEq)]
 struct Answers {
-    least: [i8; 8],
-    why: [i8; 3],
+    least: Result<usize, SheetFault>,
+    setting: [i8; 8],
+    why: Result<usize, SheetFault>,
+    reason: [i8; 3],
 }
 
-fn are_same(literals: &[i8], others: &[i8]) -> bool {
-    for (literal, other) in literals.iter().zip(others.iter()) {
-        if *literal != *other {
-            return false;
-        }
-    }
-    literals.len() == others.len()
-}
-
-impl Answers {
-    fn are(&self, due: &Answers) -> bool {
-        are_same(&self.least, &due.least) && are_same(&self.why, &due.why)
-    }
-}
-
-fn ask_both<S: Solver + Drop>(solver: S, held: &[i8; 3]) -> Answers
-    requires ordered { S.Solver.ordered solver }
-{
+fn answers_of<S: Solver + Drop>(solver: S, held: &[i8]) -> Answers {
     let mut sheet = Sheet::open(solver, 1);
-    let mut least = [0; 8];
-    let _ = least_under(&mut sheet, held, &mut least);
-    let mut why = [0; 3];
-    let _ = why_under(&mut sheet, held, &mut why);
-    Answers { least, why }
-}
-
-fn agrees(setting: u32, literal: i8) -> bool {
-    let magnitude = literal.unsigned_abs();
-    if magnitude < 1 || magnitude > 32 {
-        return false;
+    let mut setting = [0; 8];
+    let least = ask_under(&mut sheet, Question::Least, held, &mut setting);
+    let mut reason = [0; 3];
+    let why = ask_under(&mut sheet, Question::Why, held, &mut reason);
+    Answers {
+        least,
+        setting,
+        why,
+        reason,
     }
-    ((setting >> (magnitude - 1)) & 1 == 1) == (literal > 0)
 }
 
-fn count_agreeing(setting: u32, literals: &[i8]) -> usize {
-    let mut count = 0usize;
-    for literal in literals {
-        if agrees(setting, *literal) {
-            count = count.saturating_add(1);
+// The numbers of the choices of one held literal alone.
+const WEIGHTS: [u8; 3] = [4, 2, 1];
+
+// The literals of a choice.
+fn chosen_of(held: &[i8], choice: u8) -> Table<i8, 3> {
+    let mut chosen = Table::new(0);
+    for (literal, weight) in held.iter().zip(WEIGHTS.iter()) {
+        if choice & *weight != 0 {
+            let _ = chosen.push(*literal);
         }
     }
-    count
+    chosen
 }
 
 // The setting of a number, in which the first input has the highest weight.
-fn setting_of(number: u32, inputs: u8) -> u32 {
-    let mut setting = 0;
-    for index in 0..8u8 {
-        if index < inputs && (number >> (inputs.min(8) - 1 - index).min(7)) & 1 == 1 {
-            setting |= 1 << index;
-        }
+fn setting_of(number: u32, inputs: u8) -> Setting {
+    Setting {
+        closed: number.reverse_bits() >> (32 - inputs.clamp(1, 8)),
     }
-    setting
 }
 
-// The first setting, in the order of the numbers, that the network allows and that agrees with those of the held literals that are chosen.
-fn first_allowed(network: &Network, held: &[i8; 3], chosen: u8) -> Option<u32> {
-    for number in 0..256u32 {
-        if number >> network.inputs.min(8) != 0 {
-            return None;
-        }
+// The first setting, in the order of the numbers, that the network allows and that agrees with the chosen ones of the held literals.
+fn first_allowed(network: &Network, held: &[i8], choice: u8) -> Option<Setting> {
+    let chosen = chosen_of(held, choice);
+    for number in 0..1u32 << network.inputs.min(8) {
         let setting = setting_of(number, network.inputs);
-        if network.allows(setting) && agrees_with_chosen(setting, held, chosen) {
+        if network.allows(setting) && setting.fits(32, chosen.as_slice()) {
             return Some(setting);
         }
     }
     None
 }
 
-// The first of the three has the weight 4, the second 2, the last 1.
-fn agrees_with_chosen(setting: u32, held: &[i8; 3], chosen: u8) -> bool {
-    (chosen & 4 == 0 || agrees(setting, held[0]))
-        && (chosen & 2 == 0 || agrees(setting, held[1]))
-        && (chosen & 1 == 0 || agrees(setting, held[2]))
+// Literals at the front of a buffer of zeros.
+fn at_front<const N: usize>(literals: &[i8]) -> [i8; N] {
+    let mut buffer = [0; N];
+    let size = literals.len().min(N);
+    buffer[..size].copy_from_slice(&literals[..size]);
+    buffer
 }
 
-fn due_least(network: &Network, held: &[i8; 3]) -> [i8; 8] {
-    let mut least = [0; 8];
-    if let Some(setting) = first_allowed(network, held, 7) {
-        for index in 0..8usize {
-            if index < usize::from(network.inputs) {
-                let literal = index as i8 + 1;
-                least[index] = if agrees(setting, literal) {
-                    literal
-                } else {
-                    -literal
-                };
+fn due(network: &Network, held: &[i8]) -> Answers {
+    let inputs = usize::from(network.inputs);
+    match first_allowed(network, held, 7) {
+        Some(setting) => Answers {
+            least: Ok(inputs),
+            setting: at_front(setting.literals(inputs).as_slice()),
+            why: Err(SheetFault::SomeAllowed),
+            reason: [0; 3],
+        },
+        None => {
+            let choice = (0..7u8)
+                .find(|choice| first_allowed(network, held, *choice).is_none())
+                .unwrap_or(7);
+            let reason = chosen_of(held, choice);
+            Answers {
+                least: Err(SheetFault::NoneAllowed),
+                setting: [0; 8],
+                why: Ok(reason.len()),
+                reason: at_front(reason.as_slice()),
             }
         }
     }
-    least
-}
-
-fn due_why(network: &Network, held: &[i8; 3]) -> [i8; 3] {
-    if first_allowed(network, held, 7).is_some() {
-        return [0; 3];
-    }
-    for chosen in 0..8u8 {
-        if first_allowed(network, held, chosen).is_none() {
-            return listed(held, chosen);
-        }
-    }
-    [0; 3]
-}
-
-// The chosen ones at the front.
-fn listed(held: &[i8; 3], chosen: u8) -> [i8; 3] {
-    let mut list = [0; 3];
-    let mut size = 0usize;
-    for index in 0..3usize {
-        if (chosen >> (2 - index)) & 1 == 1 && size < 3 {
-            list[size] = held[index];
-            size += 1;
-        }
-    }
-    list
 }
 
 // The literal of a clause text for a literal of a network; variable 0 is none.
@@ -161,102 +125,71 @@ fn push_rule(rules: &mut Table<LiteralSet, 160>, literals: &[u16]) {
     let _ = rules.push(set);
 }
 
-// A literal as a gate below a variable reads it: a variable that has no value yet reads as false.
-fn read_below(literal: u16, variable: u16) -> u16 {
-    if literal / 2 < variable {
-        literal
-    } else {
-        literal % 2
-    }
-}
-
 // The rules that say of each gate that it is the AND of its sides, and that the output is 1.
 fn rules_of(network: &Network) -> Table<LiteralSet, 160> {
     let mut rules = Table::new(LiteralSet::empty());
     let mut variable = u16::from(network.inputs) + 1;
-    for (index, gate) in network.gates.iter().enumerate() {
-        if index < network.count && variable < 64 {
-            let out = 2 * variable;
-            let left = read_below(gate.left, variable);
-            let right = read_below(gate.right, variable);
-            push_rule(&mut rules, &[out ^ 1, left]);
-            push_rule(&mut rules, &[out ^ 1, right]);
-            push_rule(&mut rules, &[out, left ^ 1, right ^ 1]);
-            variable += 1;
-        }
+    for gate in network.gates.as_slice() {
+        let below = usize::from(variable);
+        let out = variable.saturating_mul(2);
+        let left = readable(gate.left, below);
+        let right = readable(gate.right, below);
+        push_rule(&mut rules, &[out ^ 1, left]);
+        push_rule(&mut rules, &[out ^ 1, right]);
+        push_rule(&mut rules, &[out, left ^ 1, right ^ 1]);
+        variable = variable.saturating_add(1);
     }
-    push_rule(&mut rules, &[read_below(network.output, variable)]);
+    push_rule(
+        &mut rules,
+        &[readable(network.output, usize::from(variable))],
+    );
     rules
 }
 
-fn are_right_by_gates(network: &Network, held: &[i8; 3], due: &Answers) -> bool {
-    let Ok(count) = ContactCount::new(usize::from(network.inputs)) else {
-        return false;
-    };
-    let gates: &[Gate] = &network.gates;
-    let solver = GateSolver::new(&gates[0..network.count.min(48)], network.output, count);
-    ask_both(solver, held).are(due)
-}
-
-fn are_right_by_cache(network: &Network, held: &[i8; 3], due: &Answers) -> bool {
-    let Ok(count) = ContactCount::new(usize::from(network.inputs)) else {
-        return false;
-    };
-    let gates: &[Gate] = &network.gates;
-    let below = GateSolver::new(&gates[0..network.count.min(48)], network.output, count);
-    ask_both(WitnessCache::new(below), held).are(due)
-}
-
-fn are_right_by_clauses(network: &Network, held: &[i8; 3], due: &Answers) -> bool {
-    let inputs = usize::from(network.inputs);
-    let Ok(counts) = VariableCounts::new(inputs.saturating_add(network.count), inputs) else {
-        return false;
-    };
-    let rules = rules_of(network);
-    ask_both(ClauseSolver::new(rules.as_slice(), counts), held).are(due)
-}
-
 // LEAST and WHY of the gate solver, of a cache over it and of the clause solver are those that are due.
-pub fn is_least_right(network: &Network, held: &[i8; 3]) -> bool {
-    let due = Answers {
-        least: due_least(network, held),
-        why: due_why(network, held),
+pub fn is_least_right(network: &Network, held: &[i8]) -> bool {
+    let inputs = usize::from(network.inputs);
+    let gates = network.gates.as_slice();
+    let Ok(count) = ContactCount::new(inputs) else {
+        return false;
     };
-    are_right_by_gates(network, held, &due)
-        && are_right_by_cache(network, held, &due)
-        && are_right_by_clauses(network, held, &due)
+    let Ok(counts) = VariableCounts::new(inputs.saturating_add(gates.len()), inputs) else {
+        return false;
+    };
+    let due = due(network, held);
+    let rules = rules_of(network);
+    let below = GateSolver::new(gates, network.output, count);
+    answers_of(GateSolver::new(gates, network.output, count), held) == due
+        && answers_of(WitnessCache::new(below), held) == due
+        && answers_of(ClauseSolver::new(rules.as_slice(), counts), held) == due
 }
 
 // Whether a setting stands and agrees with what is asked.
-fn stands(network: &Network, setting: u32, added: &[i8], bar: &[i8], asked: &[i8]) -> bool {
+fn stands(network: &Network, setting: Setting, added: &[i8], bar: &[i8], asked: &[i8]) -> bool {
     network.allows(setting)
-        && count_agreeing(setting, added) > 0
-        && count_agreeing(setting, bar) < bar.len()
-        && count_agreeing(setting, asked) == asked.len()
-}
-
-fn any_stands(network: &Network, added: &[i8], bar: &[i8], asked: &[i8]) -> bool {
-    for setting in 0..256u32 {
-        if setting >> network.inputs.min(8) == 0 && stands(network, setting, added, bar, asked) {
-            return true;
-        }
-    }
-    false
+        && setting.meets(32, added)
+        && !setting.fits(32, bar)
+        && setting.fits(32, asked)
 }
 
 // With a rule and a bar added, ASK says no only where no setting stands, and yes with one that does.
 pub fn is_ask_right(network: &Network, added: &[i8], bar: &[i8], asked: &[i8]) -> bool {
-    let Ok(own) = ContactCount::new(usize::from(network.inputs)) else {
+    let Ok(count) = ContactCount::new(usize::from(network.inputs)) else {
         return false;
     };
-    let gates: &[Gate] = &network.gates;
-    let mut solver = GateSolver::new(&gates[0..network.count.min(48)], network.output, own);
+    let mut solver = GateSolver::new(network.gates.as_slice(), network.output, count);
     let (Ok(()), Ok(())) = (solver.add(added), solver.bar(bar)) else {
         return false;
     };
     match solver.ask(asked) {
-        Ok(Some(Setting { closed })) => stands(network, closed, added, bar, asked),
-        Ok(None) => !any_stands(network, added, bar, asked),
+        Ok(Some(setting)) => stands(network, setting, added, bar, asked),
+        Ok(None) => !(0..1u32 << network.inputs.min(8)).any(|closed| stands(
+            network,
+            Setting { closed },
+            added,
+            bar,
+            asked,
+        )),
         Err(_) => false,
     }
 }

@@ -5,8 +5,10 @@ mod compared;
 mod network;
 mod random;
 
+use compared::{is_ask_right, is_least_right};
 use network::Network;
-use random::Random;
+use random_numbers::Random;
+use tables::table::Table;
 
 const TRIALS: u32 = 1_500;
 
@@ -28,20 +30,26 @@ impl Count {
 
 // Questions about one network: with literals held, and with a rule and a bar added.
 fn is_right(network: &Network, random: &mut Random) -> bool {
-    let held = random.literals(network.inputs);
-    let added = random.literals(network.inputs);
-    let bar = random.literals(network.inputs);
-    compared::is_least_right(network, &held)
-        && compared::is_ask_right(network, &added, &bar[0..2], &held[0..1])
+    let inputs = network.inputs.clamp(1, 32);
+    let held: Table<i8, 3> = random.literals(inputs);
+    let added: Table<i8, 3> = random.literals(inputs);
+    let bar: Table<i8, 3> = random.literals(inputs);
+    is_least_right(network, held.as_slice())
+        && is_ask_right(
+            network,
+            added.as_slice(),
+            &bar.as_slice()[0..2],
+            &held.as_slice()[0..1],
+        )
 }
 
 fn run_random(random: &mut Random) -> Count {
     let mut count = Count { right: 0, wrong: 0 };
     for trial in 0..TRIALS {
         let network = if trial % 4 == 0 {
-            random.unordered_network()
+            random::unordered_network(random)
         } else {
-            random.network()
+            random::network(random)
         };
         count.add(is_right(&network, random));
     }
@@ -64,9 +72,7 @@ fn print_count(rt: &impl Print, name: &str, count: Count) -> std::io::Result<()>
 }
 
 fn main(rt: HostRuntime) -> anyhow::Result<()> {
-    let mut random = Random {
-        state: 0x2545_f491_4f6c_dd1d,
-    };
+    let mut random = Random::seeded();
     print_count(&rt, "random networks", run_random(&mut random))?;
     print_count(
         &rt,

@@ -1,5 +1,7 @@
 // Small networks, and their values by a plain look.
 use aiger::Gate;
+use settings::Setting;
+use tables::table::Table;
 
 const MOST_GATES: usize = 48;
 
@@ -7,8 +9,7 @@ const MOST_GATES: usize = 48;
 #[derive(Drop)]
 pub struct Network {
     pub inputs: u8,
-    pub gates: [Gate; 48],
-    pub count: usize,
+    pub gates: Table<Gate, 48>,
     pub output: u16,
 }
 
@@ -19,32 +20,24 @@ fn value_of(values: u64, literal: u16) -> bool {
     value != (literal % 2 == 1)
 }
 
-fn no_gates() -> [Gate; 48] {
-    [Gate { left: 0, right: 0 }; 48]
-}
-
 impl Network {
     pub fn empty(inputs: u8) -> Self {
         Network {
             inputs: inputs.min(8),
-            gates: no_gates(),
-            count: 0,
+            gates: Table::new(Gate { left: 0, right: 0 }),
             output: 0,
         }
     }
 
     // The literal of the next gate.
     pub fn next_literal(&self) -> u16 {
-        2 * (u16::from(self.inputs) + 1 + self.count.min(MOST_GATES) as u16)
+        2 * (u16::from(self.inputs) + 1 + self.gates.len().min(MOST_GATES) as u16)
     }
 
     // The literal of a gate more.
     pub fn push(&mut self, gate: Gate) -> u16 {
         let literal = self.next_literal();
-        if self.count < MOST_GATES {
-            self.gates[self.count] = gate;
-            self.count += 1;
-        }
+        let _ = self.gates.push(gate);
         literal
     }
 
@@ -123,15 +116,14 @@ impl Network {
         network
     }
 
-    // The value of the output where bit k - 1 of the setting is input k.
-    pub fn allows(&self, setting: u32) -> bool {
-        let mut values = (u64::from(setting) << 1) & 0x1fe;
-        for (index, gate) in self.gates.iter().enumerate() {
-            if index < self.count && value_of(values, gate.left) && value_of(values, gate.right) {
-                let variable = usize::from(self.inputs) + 1 + index;
-                if variable < 64 {
-                    values |= 1 << variable;
-                }
+    // The value of the output at a setting.
+    pub fn allows(&self, setting: Setting) -> bool {
+        let mut values = (u64::from(setting.closed) << 1) & 0x1fe;
+        let mut variable = self.inputs;
+        for gate in self.gates.as_slice() {
+            variable = variable.saturating_add(1);
+            if variable < 64 && value_of(values, gate.left) && value_of(values, gate.right) {
+                values |= 1 << variable;
             }
         }
         value_of(values, self.output)
