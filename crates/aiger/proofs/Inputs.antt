@@ -1,5 +1,5 @@
 -- Reading the lines of inputs, one after another.
-use Rattle.std.proofs.Common.{◌≡◌, ℕ, suc, ◌+◌, List, Ok, Err, Result, ap, ◌∙◌}
+use Rattle.std.proofs.Common.{◌≡◌, ℕ, suc, ◌+◌, List, Ok, Result, ap, ◌∙◌}
 use Rattle.faults.specs.declared.TextFault.{TextFault}
 use Rattle.texts.specs.Lexemes.{Lexeme}
 use Rattle.texts.specs.Due.{and_then}
@@ -10,9 +10,3 @@ onward n due r = and_then r (λ a. input_lines n (due + 2) a.1)
 
 pub input_step : (m n due : ℕ) (ts rest : List Lexeme) → m ≡ suc n → due_line due ts ≡ Ok (tt, rest) → input_lines m due ts ≡ input_lines n (due + 2) rest
 input_step m n due ts rest h e = ap (λ k. input_lines k due ts) h ∙ ap (onward n due) e
-
-pub input_fault : (m n due : ℕ) (ts : List Lexeme) (f : TextFault) → m ≡ suc n → due_line due ts ≡ Err f → input_lines m due ts ≡ Err f
-input_fault m n due ts f h e = ap (λ k. input_lines k due ts) h ∙ ap (onward n due) e
-
-pub inputs_end : (m due : ℕ) (ts : List Lexeme) → m ≡ 0 → input_lines m due ts ≡ Ok (tt, ts)
-inputs_end m due ts h = ap (λ k. input_lines k due ts) h

@@ -31,9 +31,9 @@ fn negative(digits: &[u8]) -> Option<i8>
 pub fn literal(word: &[u8]) -> Option<i8>
     ensures value { result ≡ literal_of word.now }
 {
-    match word.split_first() {
-        None => None,
-        Some((b'-', digits)) => negative(digits),
-        Some(_) => positive(word),
+    match word {
+        [] => None,
+        [b'-', digits @ ..] => negative(digits),
+        _ => positive(word),
     }
 }

@@ -1,16 +1,15 @@
 // What a line asks for.
 ghost use Rattle.std.specs.Prelude.{◌≡◌, [], ◌++◌, IfOk, Some, vec_items};
 ghost use Rattle.std.specs.Option.{option_map};
-ghost use Rattle.std.specs.Str.{bytes_eq};
 ghost use Rattle.scripts.specs.Words.{words_of, words_ahead, with_first, only_word};
-ghost use Rattle.scripts.specs.Grammar.{verb_of, side_of, comment, literals_of, assume_of, release_of, length_or, action_of, or_bad, call_of, line_of};
+ghost use Rattle.scripts.specs.Grammar.{verb_of, side_of, literals_of, assume_of, release_of, length_or, action_of, or_bad, call_of, line_of};
 ghost use Rattle.scripts.specs.Forms.{form, action_form, terms};
 
 use super::{Action, Line};
 use crate::numbers::{literal, number};
 use model::Side;
 use std::alloc::{AllocError, Global};
-use texts::{Token, Words, exact};
+use texts::{Token, Words};
 
 #[derive(Clone, Copy)]
 enum Verb {
@@ -50,52 +49,27 @@ fn last_word<'a>(words: &mut Words<'a>) -> Option<&'a [u8]>
     }
 }
 
-// Whether the word is this one.
-fn is(word: &[u8], due: &[u8]) -> bool
-    ensures value { result ≡ bytes_eq word.now due.now }
-{
-    exact(word, 0, due).is_ok()
-}
-
 fn read_side(word: &[u8]) -> Option<Side>
     ensures value { result ≡ side_of word.now }
 {
-    if is(word, b"make") {
-        Some(Side::Make)
-    } else if is(word, b"break") {
-        Some(Side::Break)
-    } else {
-        None
+    match word {
+        b"make" => Some(Side::Make),
+        b"break" => Some(Side::Break),
+        _ => None,
     }
 }
 
 fn read_verb(word: &[u8]) -> Option<Verb>
     ensures value { result ≡ verb_of word.now }
 {
-    if is(word, b"rule") {
-        Some(Verb::Rule)
-    } else if is(word, b"assume") {
-        Some(Verb::Assume)
-    } else if is(word, b"release") {
-        Some(Verb::Release)
-    } else if is(word, b"least") {
-        Some(Verb::Least)
-    } else if is(word, b"why") {
-        Some(Verb::Why)
-    } else if is(word, b"write") {
-        Some(Verb::Write)
-    } else {
-        None
-    }
-}
-
-// Whether the first word of a line makes it a comment.
-fn is_comment(word: &[u8]) -> bool
-    ensures value { result ≡ comment word.now }
-{
-    match word.split_first() {
-        Some((byte, _)) => *byte == b'#',
-        None => false,
+    match word {
+        b"rule" => Some(Verb::Rule),
+        b"assume" => Some(Verb::Assume),
+        b"release" => Some(Verb::Release),
+        b"least" => Some(Verb::Least),
+        b"why" => Some(Verb::Why),
+        b"write" => Some(Verb::Write),
+        _ => None,
     }
 }
 
@@ -105,10 +79,10 @@ fn read_literals(heap: Global, words: &mut Words) -> Result<Option<Vec<i8>>, All
 {
     let mut literals = Vec::new(heap);
     while let Some(word) = next_word(words) {
-        match literal(word) {
-            None => return Ok(None),
-            Some(l) => literals.push(l)?,
-        }
+        let Some(literal) = literal(word) else {
+            return Ok(None);
+        };
+        literals.push(literal)?;
     }
     Ok(Some(literals))
 }
@@ -145,34 +119,19 @@ fn read_action(heap: Global, verb: Verb, words: &mut Words) -> Result<Option<Act
     ensures value { IfOk result (λ a. option_map action_form a ≡ action_of verb (words_ahead words.old)) }
 {
     match verb {
-        Verb::Rule => match read_literals(heap, words)? {
-            Some(literals) => Ok(Some(Action::Rule(literals))),
-            None => Ok(None),
-        },
+        Verb::Rule => Ok(read_literals(heap, words)?.map(Action::Rule)),
         Verb::Assume => Ok(read_assume(words)),
         Verb::Release => Ok(read_release(words)),
-        Verb::Least => match length_or(words, LITERALS) {
-            Some(length) => Ok(Some(Action::Least(length))),
-            None => Ok(None),
-        },
-        Verb::Why => match length_or(words, LITERALS) {
-            Some(length) => Ok(Some(Action::Why(length))),
-            None => Ok(None),
-        },
-        Verb::Write => match length_or(words, BYTES) {
-            Some(length) => Ok(Some(Action::Write(length))),
-            None => Ok(None),
-        },
+        Verb::Least => Ok(length_or(words, LITERALS).map(Action::Least)),
+        Verb::Why => Ok(length_or(words, LITERALS).map(Action::Why)),
+        Verb::Write => Ok(length_or(words, BYTES).map(Action::Write)),
     }
 }
 
 fn read_terms(words: &mut Words) -> Line
     ensures value { form result ≡ or_bad terms (length_or 64 (words_ahead words.old)) }
 {
-    match length_or(words, RECORDS) {
-        Some(length) => Line::Terms(length),
-        None => Line::Bad,
-    }
+    length_or(words, RECORDS).map_or(Line::Bad, Line::Terms)
 }
 
 // What is asked of a sheet, by the words behind its name.
@@ -185,10 +144,8 @@ fn read_call(heap: Global, side: Side, words: &mut Words) -> Result<Line, AllocE
     let Some(verb) = read_verb(word) else {
         return Ok(Line::Bad);
     };
-    match read_action(heap, verb, words)? {
-        Some(action) => Ok(Line::Call(side, action)),
-        None => Ok(Line::Bad),
-    }
+    let action = read_action(heap, verb, words)?;
+    Ok(action.map_or(Line::Bad, |action| Line::Call(side, action)))
 }
 
 // What a line asks for. A line ends at its first line feed, if it has one.
@@ -199,14 +156,12 @@ pub fn read_line(heap: Global, line: &[u8]) -> Result<Line, AllocError>
     let Some(first) = next_word(&mut words) else {
         return Ok(Line::Nothing);
     };
-    if is_comment(first) {
-        return Ok(Line::Nothing);
-    }
-    if is(first, b"terms") {
-        return Ok(read_terms(&mut words));
-    }
-    match read_side(first) {
-        Some(side) => read_call(heap, side, &mut words),
-        None => Ok(Line::Bad),
+    match first {
+        [b'#', ..] => Ok(Line::Nothing),
+        b"terms" => Ok(read_terms(&mut words)),
+        _ => match read_side(first) {
+            Some(side) => read_call(heap, side, &mut words),
+            None => Ok(Line::Bad),
+        },
     }
 }
