@@ -5,7 +5,7 @@ ghost use Rattle.std.specs.Prelude.{false};
 ghost use Rattle.rules.specs.Rules.{Choice};
 
 use aiger::Gate;
-use implications::{Implied, Ternary};
+use implications::Implied;
 use networks::Circuit;
 use search::Assignment;
 
@@ -21,26 +21,18 @@ struct Demands {
     asked: [u32; 2081],
 }
 
+// Whether nothing is known of a literal.
 fn is_unknown(known: &Implied, literal: u16) -> bool {
     let variable = (literal / 2) as usize;
-    if variable >= MOST_VARIABLES {
-        return false;
-    }
-    match known.values[variable] {
-        Ternary::Unknown => true,
-        _ => false,
-    }
+    variable < MOST_VARIABLES && known.values[variable].is_none()
 }
 
 // Whether a gate is known to be 0 while nothing is known of its sides, so that it has no cause yet.
 fn is_unjustified(known: &Implied, variable: usize, gate: Gate) -> bool {
-    if variable >= MOST_VARIABLES {
-        return false;
-    }
-    match known.values[variable] {
-        Ternary::Zero => is_unknown(known, gate.left) && is_unknown(known, gate.right),
-        _ => false,
-    }
+    variable < MOST_VARIABLES
+        && known.values[variable] == Some(false)
+        && is_unknown(known, gate.left)
+        && is_unknown(known, gate.right)
 }
 
 impl Demands {

@@ -61,9 +61,8 @@ impl ClauseSolver<'_> {
     {
         let (added, bars) = (self.additions.rules(), self.additions.bars());
         let contacts = self.counts.contacts;
-        find_forced(self.rules, false, self.counts.variables(), assignment).or_else(
-            || find_forced_in_both(added, bars, contacts, assignment),
-        )
+        let first = find_forced(self.rules, false, self.counts.variables(), assignment);
+        first.or_else(|| find_forced_in_both(added, bars, contacts, assignment))
     }
 
     // How often each variable occurs in the shortest rules that are not met, of all three kinds.

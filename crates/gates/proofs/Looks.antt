@@ -1,5 +1,5 @@
 -- What a look at an assignment tells of the settings that stand.
-use Rattle.std.proofs.Common.{◌≡◌, ℕ, ◌+◌, ◌<◌, Bool, true, false, not, ◌&&◌, ◌||◌, eqb, List, length, get_or, take, Some, None, sym, refl, ap, ◌∙◌, subst, ⊎_elim, arith, take_all}
+use Rattle.std.proofs.Common.{◌≡◌, ℕ, ◌+◌, ◌<◌, Bool, true, false, not, ◌&&◌, ◌||◌, eqb, List, length, get_or, take, Some, Ok, Err, sym, refl, ap, ◌∙◌, subst, ⊎_elim, arith, take_all}
 use Rattle.std.proofs.lemmas.List.FromFn.{fill_by_all}
 use Rattle.std.proofs.lemmas.Bool.{and_parts, both_ways}
 use Rattle.literals.specs.Bits.{bit}
@@ -18,9 +18,10 @@ use Rattle.rules.specs.Rules.{found_by}
 use Rattle.rules.proofs.Sums.{Sums, sums_both}
 use Rattle.networks.specs.Circuits.{circuit_allows}
 use Rattle.networks.proofs.Circuits.{computed_input}
-use Rattle.implications.specs.declared.Implied.{Implied}
-use Rattle.implications.specs.Ternaries.{narrowed}
-use Rattle.implications.specs.Implied.{Agree, Implies, Right}
+use Rattle.implications.specs.declared.Contradiction.{Contradiction}
+use Rattle.implications.specs.declared.known.Implied.{Implied}
+use Rattle.implications.specs.Ternaries.{narrowed, Agree}
+use Rattle.implications.specs.Implied.{Implies, Right}
 use Rattle.implications.proofs.Narrowing.{narrowed_reaches}
 use Rattle.gates.specs.declared.GateSolver.{GateSolver}
 use Rattle.gates.specs.Gates.{gate_contacts, gate_added, gate_bars, gate_good, gate_scan}
@@ -49,14 +50,14 @@ module _ (s : GateSolver) (a : Assignment) where
       both_ways _ h (sym (ap (gate_good s) (only (gate_contacts s) a all x long fit ∙ sym (reading_low (gate_contacts s) a s.circuit.few_inputs))) ∙ g)
 
   -- what follows through the gates
-  pub implied_none : Implies s.circuit a None → Says (gate_contacts s) (gate_good s) a Conflict
-  implied_none h x long g fit = h x long (and_parts _ _ g).0 fit
+  pub implied_none : (f : Contradiction) → Implies s.circuit a (Err f) → Says (gate_contacts s) (gate_good s) a Conflict
+  implied_none f h x long g fit = h x long (and_parts _ _ g).0 fit
 
-  right : (k : Implied) → Implies s.circuit a (Some k) → Right (gate_contacts s) (gate_good s) a k.values
+  right : (k : Implied) → Implies s.circuit a (Ok k) → Right (gate_contacts s) (gate_good s) a k.values
   right k h x long g fit i lt =
       subst (Agree (get_or k.values (i + 1) _)) (computed_input s.circuit.gates.now x (gate_contacts s) long i lt) (h x long (and_parts _ _ g).0 fit (i + 1))
 
-  pub narrower : (k : Implied) (b : Assignment) → Implies s.circuit a (Some k) → b ≡ narrowed (gate_contacts s) k.values a → not (eqb b.closed a.closed && eqb b.opened a.opened) ≡ true → Narrows (gate_contacts s) (gate_good s) a b
+  pub narrower : (k : Implied) (b : Assignment) → Implies s.circuit a (Ok k) → b ≡ narrowed (gate_contacts s) k.values a → not (eqb b.closed a.closed && eqb b.opened a.opened) ≡ true → Narrows (gate_contacts s) (gate_good s) a b
   narrower k b h e differs =
       subst (Narrows (gate_contacts s) (gate_good s) a) (sym e)
       (⊎_elim

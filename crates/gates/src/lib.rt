@@ -87,10 +87,10 @@ impl GateSolver<'_> {
     fn look_through_gates(&self, assignment: Assignment) -> Found
         ensures says { Says (gate_contacts self.now) (gate_good self.now) assignment result }
     {
-        let Some(known) = imply(self.circuit, assignment) else {
+        let Ok(known) = imply(self.circuit, assignment) else {
             return Found::Conflict;
         };
-        let narrower = known.narrowed(self.circuit.inputs, assignment);
+        let narrower = known.narrowed(self.circuit, assignment);
         if narrower != assignment {
             return Found::Narrowed(narrower);
         }

@@ -1,5 +1,5 @@
 -- What follows from an assignment is right at each setting that the circuit allows and that agrees with it.
-use Rattle.std.proofs.Common.{◌≡◌, ℕ, zero, suc, ◌+◌, ◌/◌, ◌<◌, Bool, true, false, cond, not, List, length, get_or, set, replicate, sym, refl, ap, ◌∙◌, subst, arith}
+use Rattle.std.proofs.Common.{◌≡◌, ℕ, zero, suc, ◌+◌, ◌/◌, ◌<◌, Bool, true, false, cond, not, List, length, get_or, set, replicate, Some, None, Option, Result, sym, refl, ap, ◌∙◌, subst, arith}
 use Rattle.std.proofs.lemmas.Bool.{both_ways}
 use Rattle.literals.specs.Bits.{bit}
 use Rattle.literals.specs.Literals.{has}
@@ -9,27 +9,24 @@ use Rattle.search.proofs.Pointwise.{covers_out}
 use Rattle.networks.specs.declared.lent_gates.Circuit.{Circuit}
 use Rattle.networks.specs.Circuits.{circuit_allows, computed, value_in, readable}
 use Rattle.networks.proofs.Circuits.{computed_zero, computed_input, computed_output}
-use Rattle.implications.specs.declared.Ternary.{Ternary}
-use Rattle.implications.specs.declared.Ternary.TheVariants.{Unknown, Zero, One}
-use Rattle.implications.specs.declared.Progress.{Progress}
-use Rattle.implications.specs.Ternaries.{assigned, left_by, demanded, narrowed, taken_from}
-use Rattle.implications.specs.Implied.{Agree, Sound, Holds}
+use Rattle.implications.specs.declared.Contradiction.{Contradiction}
+use Rattle.implications.specs.Ternaries.{assigned, left_by, demanded, narrowed, taken_from, Agree, Sound, Holds}
 use Rattle.implications.proofs.Sound.{sound_set, demanded_right, holds_from, readable_below}
 
-pub blank : (m v : ℕ) → get_or (replicate m Unknown) v Unknown ≡ Unknown
+pub blank : (m v : ℕ) → ◌≡◌ {A = Option Bool} (get_or {A = Option Bool} (replicate m None) v None) None
 blank zero v = refl
 blank (suc m) zero = refl
 blank (suc m) (suc v) = blank m v
 
 -- nothing is known but that variable 0 is false
-pub first_sound : (ts : List Ternary) (V : ℕ → Bool) → 0 < length ts → ((v : ℕ) → get_or ts v Unknown ≡ Unknown) → V 0 ≡ false → Sound (set ts 0 Zero) V
-first_sound ts V some unknown low = sound_set ts V 0 Zero some (λ v. subst (λ t. Agree t (V v)) (sym (unknown v)) tt) low
+pub first_sound : (ts : List (Option Bool)) (V : ℕ → Bool) → 0 < length ts → ((v : ℕ) → get_or ts v None ≡ None) → V 0 ≡ false → Sound (set ts 0 (Some false)) V
+first_sound ts V some unknown low = sound_set ts V 0 (Some false) some (λ v. subst (λ t. Agree t (V v)) (sym (unknown v)) tt) low
 
-pub narrowed_more : (k : ℕ) (ts : List Ternary) (a : Assignment) → narrowed (k + 1) ts a ≡ taken_from (narrowed k ts a) k (get_or ts (k + 1) Unknown)
+pub narrowed_more : (k : ℕ) (ts : List (Option Bool)) (a : Assignment) → narrowed (k + 1) ts a ≡ taken_from (narrowed k ts a) k (get_or ts (k + 1) None)
 narrowed_more k ts a =
-    ap (λ j. narrowed j ts a) {x = k + 1} {y = suc k} (omega arith) ∙ ap (λ j. taken_from (narrowed k ts a) k (get_or ts j Unknown)) {x = suc k} {y = k + 1} (omega arith)
+    ap (λ j. narrowed j ts a) {x = k + 1} {y = suc k} (omega arith) ∙ ap (λ j. taken_from (narrowed k ts a) k (get_or ts j None)) {x = suc k} {y = k + 1} (omega arith)
 
-agree_cond : (p q b : Bool) → (b ≡ false → p ≡ false) → (b ≡ true → q ≡ false) → Agree (cond p One (cond q Zero Unknown)) b
+agree_cond : (p q b : Bool) → (b ≡ false → p ≡ false) → (b ≡ true → q ≡ false) → Agree (cond p (Some true) (cond q (Some false) None)) b
 agree_cond true q true f g = refl
 agree_cond true q false f g = absurd (both_ways _ (f refl) refl)
 agree_cond false true true f g = absurd (both_ways _ (g refl) refl)
@@ -45,7 +42,7 @@ module _ (c : Circuit) (a : Assignment) (x : List Bool) (long : length x ≡ c.i
       (agree_cond (bit a.closed k) (bit a.opened k) (get_or x k false) (λ e. subst (λ b. has (taken a) k (not b) ≡ false) e free) (λ e. subst (λ b. has (taken a) k (not b) ≡ false) e free))
 
   -- and the output is 1
-  output_right : (before after : List Ternary) (p : Progress) (l : ℕ) → l ≡ readable (c.inputs + 1 + length c.gates.now) c.output → length before ≡ 2081 → left_by p after ≡ demanded before l →
+  output_right : {A : Type 0} (before after : List (Option Bool)) (p : Result A Contradiction) (l : ℕ) → l ≡ readable (c.inputs + 1 + length c.gates.now) c.output → length before ≡ 2081 → left_by p after ≡ demanded before l →
       Sound before (computed c.gates.now x) → Holds (computed c.gates.now x) p after
   output_right before after p l e whole noting s =
       let V = computed c.gates.now x in
@@ -55,7 +52,7 @@ module _ (c : Circuit) (a : Assignment) (x : List Bool) (long : length x ≡ c.i
       (demanded_right 2081 V before whole s l below (ap (value_in V) e ∙ computed_output c.gates.now x c.inputs long c.output m refl ∙ ok))
 
   -- what is known at first, and the output is 1
-  pub start_right : (first after : List Ternary) (p : Progress) (l : ℕ) → l ≡ readable (c.inputs + 1 + length c.gates.now) c.output → length first ≡ 2081 → left_by p after ≡ demanded first l →
+  pub start_right : {A : Type 0} (first after : List (Option Bool)) (p : Result A Contradiction) (l : ℕ) → l ≡ readable (c.inputs + 1 + length c.gates.now) c.output → length first ≡ 2081 → left_by p after ≡ demanded first l →
       ((V : ℕ → Bool) → V 0 ≡ false → ((k : ℕ) → k < c.inputs → Agree (assigned a k) (V (k + 1))) → Sound first V) → Holds (computed c.gates.now x) p after
   start_right first after p l e whole noting sound =
       output_right first after p l e whole noting (sound (computed c.gates.now x) (computed_zero c.gates.now x c.inputs long) assigned_agrees)

@@ -1,5 +1,5 @@
 -- What the loops over words come to, one step at a time.
-use Rattle.std.proofs.Common.{◌≡◌, ℕ, suc, ◌+◌, ◌^◌, ◌<◌, ◌≤◌, Bool, true, false, cond, not, ◌||◌, eqb, List, [], ◌∷◌, ◌++◌, map, length, get_or, drop, sym, refl, ap, ◌∙◌, ⊎_elim, arith, length-append}
+use Rattle.std.proofs.Common.{◌≡◌, ℕ, suc, ◌+◌, ◌^◌, ◌<◌, ◌≤◌, Bool, true, false, cond, not, ◌||◌, eqb, List, map, length, get_or, drop, sym, refl, ap, ◌∙◌, ⊎_elim, arith}
 use lib.Bits.{bit_and, bit_or}
 use Rattle.std.proofs.lemmas.Nat.{or_lt, pow_pos}
 use Rattle.std.proofs.lemmas.List.{at_drop_more}
@@ -12,16 +12,7 @@ use Rattle.literals.proofs.Booleans.{or_false}
 use Rattle.search.specs.declared.Assignment.{Assignment}
 use Rattle.search.specs.Assignments.{decided, undecided}
 use Rattle.rules.specs.Rules.{as_rule}
-use Rattle.aiger.specs.declared.Gate.{Gate}
-use Rattle.lanes.specs.Words.{next_rank, gate_word, words_from, literals_word, met_word, all_met_word, with_bit}
-
-pub words_push : (ws : List ℕ) (gs : List Gate) (g : Gate) → words_from ws (gs ++ g ∷ []) ≡ words_from ws gs ++ gate_word (words_from ws gs) g ∷ []
-words_push ws [] g = refl
-words_push ws (h ∷ gs) g = words_push (ws ++ gate_word ws h ∷ []) gs g
-
-pub length_words : (ws : List ℕ) (gs : List Gate) → length (words_from ws gs) ≡ length ws + length gs
-length_words ws [] = omega arith
-length_words ws (g ∷ gs) = length_words (ws ++ gate_word ws g ∷ []) gs ∙ omega (arith, length-append ws (gate_word ws g ∷ []))
+use Rattle.lanes.specs.Words.{next_rank, literals_word, met_word, all_met_word, with_bit}
 
 -- one input of a rule, and one rule
 pub met_more : (lanes i : ℕ) (s : LiteralSet) (ws : List ℕ) → i < length ws → met_word (bit_or lanes (literals_word s i (get_or ws i 0))) (i + 1) s (drop (i + 1) ws) ≡ met_word lanes i s (drop i ws)

@@ -1,5 +1,5 @@
 -- Words of 64 lanes: the value of a variable at 64 settings.
-use Rattle.std.specs.Prelude.{◌≡◌, ℕ, suc, ◌+◌, ◌/◌, ◌%◌, ◌^◌, ◌<◌, Bool, true, false, cond, not, ◌&&◌, List, [], ◌∷◌, ◌++◌, map, Some, None, Option, ◌==◌, bit_and, bit_or, bit_xor, slice_index}
+use Rattle.std.specs.Prelude.{◌≡◌, ℕ, suc, ◌+◌, ◌^◌, ◌<◌, Bool, true, false, cond, not, ◌&&◌, List, [], ◌∷◌, map, Some, None, Option, ◌==◌, bit_and, bit_or, bit_xor}
 use Rattle.std.specs.List.{range_with_len}
 use Rattle.literals.specs.Bits.{bit}
 use Rattle.literals.specs.Literals.{has}
@@ -8,6 +8,7 @@ use Rattle.settings.specs.Settings.{all_met, any_covers}
 use Rattle.aiger.specs.declared.Gate.{Gate}
 use Rattle.networks.specs.declared.lent_gates.Circuit.{Circuit}
 use Rattle.networks.specs.Circuits.{circuit_allows}
+use Rattle.networks.specs.Evaluation.{literal_from, gate_from, extended}
 use Rattle.search.specs.declared.Assignment.{Assignment}
 use Rattle.search.specs.declared.Found.TheVariants.{Conflict, MetBy}
 use Rattle.search.specs.Assignments.{decided, undecided}
@@ -39,18 +40,14 @@ abbrev pub input_words : ℕ → Assignment → List ℕ
 input_words n a = map (λ k. input_word a k (undecided k a)) (range_with_len 0 n)
 
 -- what a network computes, lane by lane: as its values, with words in place of Bools
-abbrev pub word_at : List ℕ → ℕ → ℕ
-word_at ws v = slice_index ws v
-
 abbrev pub literal_word : List ℕ → ℕ → ℕ
-literal_word ws l = cond (l % 2 == 1) (bit_xor (word_at ws (l / 2)) all_lanes) (word_at ws (l / 2))
+literal_word ws l = literal_from 0 (λ w. bit_xor w all_lanes) (λ w v. bit_and w v) ws l
 
 abbrev pub gate_word : List ℕ → Gate → ℕ
-gate_word ws g = bit_and (literal_word ws g.left) (literal_word ws g.right)
+gate_word ws g = gate_from 0 (λ w. bit_xor w all_lanes) (λ w v. bit_and w v) ws g
 
 abbrev pub words_from : List ℕ → List Gate → List ℕ
-words_from ws [] = ws
-words_from ws (g ∷ gs) = words_from (ws ++ gate_word ws g ∷ []) gs
+words_from ws gs = extended 0 (λ w. bit_xor w all_lanes) (λ w v. bit_and w v) ws gs
 
 -- the lanes in which the output is 1
 abbrev pub output_word : List Gate → ℕ → List ℕ → ℕ

@@ -6,11 +6,11 @@ ghost use Rattle.tables.specs.Tables.{items};
 ghost use Rattle.literals.specs.Bits.{bit};
 ghost use Rattle.search.specs.Assignments.{undecided, filled};
 ghost use Rattle.rules.specs.Rules.{as_rule};
-ghost use Rattle.lanes.specs.Words.{all_lanes, pattern, input_word, next_rank, input_words, word_at, literal_word, gate_word, words_from, output_word, literals_word, met_word, all_met_word, good_word, FirstLane, with_bit, Tried, circuit_good};
+ghost use Rattle.lanes.specs.Words.{all_lanes, pattern, input_word, next_rank, input_words, output_word, literals_word, met_word, all_met_word, good_word, FirstLane, with_bit, Tried, circuit_good};
 
-use aiger::Gate;
 use literals::{LiteralSet, has_bit};
 use networks::Circuit;
+use networks::evaluation::{follow, value_of};
 use rules::rule_of;
 use search::Assignment;
 use tables::table::Table;
@@ -80,44 +80,6 @@ fn input_words(inputs: u8, assignment: Assignment) -> Table<u64, 32>
     words
 }
 
-fn word_at(words: &[u64], variable: usize) -> u64
-    ensures word { result ≡ word_at words.now variable }
-{
-    if variable < words.len() {
-        words[variable]
-    } else {
-        0
-    }
-}
-
-fn literal_word(words: &[u64], literal: u16) -> u64
-    ensures word { result ≡ literal_word words.now literal }
-{
-    let word = word_at(words, (literal / 2) as usize);
-    if literal % 2 == 1 {
-        word ^ 0xffff_ffff_ffff_ffff
-    } else {
-        word
-    }
-}
-
-fn gate_word(words: &[u64], gate: Gate) -> u64
-    ensures word { result ≡ gate_word words.now gate }
-{
-    literal_word(words, gate.left) & literal_word(words, gate.right)
-}
-
-// The words of the gates, one behind the other.
-fn follow(words: &mut Table<u64, 2081>, gates: &[Gate])
-    requires room { length (items words.old) + length gates.now ≤ 2081 }
-    ensures followed { items words.new ≡ words_from (items words.old) gates.now }
-{
-    for gate in gates {
-        let word = gate_word(words.as_slice(), *gate);
-        let _ = words.push(word);
-    }
-}
-
 // The lanes in which the output is 1, from the words of the inputs.
 fn output_word(circuit: Circuit<'_>, inputs: &[u64]) -> u64
     requires few { length inputs.now ≤ 32 }
@@ -127,7 +89,7 @@ fn output_word(circuit: Circuit<'_>, inputs: &[u64]) -> u64
     let _ = words.push(0);
     let _ = words.extend(inputs);
     follow(&mut words, circuit.gates);
-    literal_word(words.as_slice(), circuit.output)
+    value_of(words.as_slice(), circuit.output)
 }
 
 // The lanes in which an input agrees with a literal of the rule.

@@ -4,15 +4,24 @@ use Rattle.std.proofs.lemmas.List.{get_or_append_left, get_or_push}
 use Rattle.std.proofs.lemmas.Bool.{cases_lt}
 use Rattle.aiger.specs.declared.Gate.{Gate}
 use Rattle.aiger.specs.Grammar.{Below}
+use Rattle.networks.specs.Evaluation.{gate_from, extended}
 use Rattle.networks.specs.Networks.{literal_value, gate_value, values_from, no_gate, NetworkLaw}
 
-pub values_push : (vs : List Bool) (gs : List Gate) (g : Gate) → values_from vs (gs ++ g ∷ []) ≡ values_from vs gs ++ gate_value (values_from vs gs) g ∷ []
-values_push vs [] g = refl
-values_push vs (h ∷ gs) g = values_push (vs ++ gate_value vs h ∷ []) gs g
+-- ---- with any values
+
+module _ {T : Type 0} (zero : T) (opposite : T → T) (both : T → T → T) where
+  pub extended_push : (vs : List T) (gs : List Gate) (g : Gate) → extended zero opposite both vs (gs ++ g ∷ []) ≡ extended zero opposite both vs gs ++ gate_from zero opposite both (extended zero opposite both vs gs) g ∷ []
+  extended_push vs [] g = refl
+  extended_push vs (h ∷ gs) g = extended_push (vs ++ gate_from zero opposite both vs h ∷ []) gs g
+
+  pub length_extended : (vs : List T) (gs : List Gate) → length (extended zero opposite both vs gs) ≡ length vs + length gs
+  length_extended vs [] = omega arith
+  length_extended vs (g ∷ gs) = length_extended (vs ++ gate_from zero opposite both vs g ∷ []) gs ∙ omega (arith, length-append vs (gate_from zero opposite both vs g ∷ []))
+
+-- ---- at one setting
 
 pub length_values : (vs : List Bool) (gs : List Gate) → length (values_from vs gs) ≡ length vs + length gs
-length_values vs [] = omega arith
-length_values vs (g ∷ gs) = length_values (vs ++ gate_value vs g ∷ []) gs ∙ omega (arith, length-append vs (gate_value vs g ∷ []))
+length_values vs gs = length_extended false not (λ p q. p && q) vs gs
 
 -- two lists of values agree below m
 SameBelow : ℕ → List Bool → List Bool → Type 0

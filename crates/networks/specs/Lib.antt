@@ -1,2 +1,3 @@
+pub mod Evaluation
 pub mod Networks
 pub mod Circuits

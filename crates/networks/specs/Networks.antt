@@ -1,21 +1,21 @@
 -- What a gate text allows. Variable 0 is false, then come the inputs, then one variable a gate.
-use Rattle.std.specs.Prelude.{◌≡◌, ℕ, suc, ◌+◌, ◌/◌, ◌%◌, ◌<◌, Bool, false, cond, not, ◌&&◌, List, [], ◌∷◌, ◌++◌, length, take, min, ◌==◌, slice_index_or}
+use Rattle.std.specs.Prelude.{◌≡◌, ℕ, suc, ◌+◌, ◌<◌, Bool, false, not, ◌&&◌, List, ◌∷◌, length, take, min, slice_index_or}
 use Rattle.aiger.specs.declared.Gate.{Gate}
 use Rattle.aiger.specs.Aag.{Aag}
 use Rattle.aiger.specs.Grammar.{WellFormed}
+use Rattle.networks.specs.Evaluation.{literal_from, gate_from, extended}
 
--- the value of a literal, from those of the variables: 2k is variable k, 2k + 1 its opposite, so 0 is false and 1 true
+-- the value of a literal at one setting, from those of the variables
 abbrev pub literal_value : List Bool → ℕ → Bool
-literal_value values l = cond (l % 2 == 1) (not (slice_index_or values (l / 2) false)) (slice_index_or values (l / 2) false)
+literal_value values l = literal_from false not (λ p q. p && q) values l
 
 -- a gate is the AND of its two sides
 abbrev pub gate_value : List Bool → Gate → Bool
-gate_value values g = literal_value values g.left && literal_value values g.right
+gate_value values g = gate_from false not (λ p q. p && q) values g
 
 -- the values of all variables, gate by gate
 abbrev pub values_from : List Bool → List Gate → List Bool
-values_from values [] = values
-values_from values (g ∷ gs) = values_from (values ++ gate_value values g ∷ []) gs
+values_from values gs = extended false not (λ p q. p && q) values gs
 
 -- a network allows a setting of its inputs when its output is 1
 abbrev pub network_allows : List Gate → ℕ → List Bool → Bool

@@ -8,10 +8,12 @@ ghost use Rattle.networks.specs.Networks.{literal_value, gate_value, values_from
 ghost use Rattle.networks.specs.Circuits.{readable};
 
 use aiger::Gate;
+use evaluation::{follow, value_of};
 use literals::has_bit;
 use settings::Setting;
 use tables::table::Table;
 
+pub mod evaluation;
 mod lent_gates;
 
 pub use lent_gates::Circuit;
@@ -39,28 +41,6 @@ pub fn readable(literal: u16, variables: usize) -> u16
     }
 }
 
-// The value of a variable; one without a value reads as false.
-fn variable_value(values: &[bool], variable: usize) -> bool
-    ensures value { result ≡ slice_index_or values.now variable false }
-{
-    values.get(variable).copied().unwrap_or(false)
-}
-
-// The value of a literal.
-fn value_of(values: &[bool], literal: u16) -> bool
-    ensures value { result ≡ literal_value values.now literal }
-{
-    let value = variable_value(values, (literal / 2) as usize);
-    if literal % 2 == 1 { !value } else { value }
-}
-
-// The value of a gate.
-fn and_of(values: &[bool], gate: Gate) -> bool
-    ensures value { result ≡ gate_value values.now gate }
-{
-    value_of(values, gate.left) && value_of(values, gate.right)
-}
-
 // The values of variable 0 and of the inputs.
 fn input_values(inputs: usize, setting: Setting) -> Table<bool, 2081>
     requires few { inputs ≤ 32 }
@@ -72,17 +52,6 @@ fn input_values(inputs: usize, setting: Setting) -> Table<bool, 2081>
         let _ = values.push(has_bit(setting.closed as u64, index));
     }
     values
-}
-
-// The values of the gates, one behind the other.
-fn follow(values: &mut Table<bool, 2081>, gates: &[Gate])
-    requires room { length (items values.old) + length gates.now ≤ 2081 }
-    ensures followed { items values.new ≡ values_from (items values.old) gates.now }
-{
-    for gate in gates {
-        let value = and_of(values.as_slice(), *gate);
-        let _ = values.push(value);
-    }
 }
 
 // The value of the output.

@@ -136,9 +136,8 @@ pub fn find_forced_in_both(
 ) -> Option<Finding>
     ensures first { result ≡ scanned_both variables rules.now bars.now assignment }
 {
-    find_forced(rules, false, variables, assignment).or_else(|| find_forced(
-        bars, true, variables, assignment,
-    ))
+    let first = find_forced(rules, false, variables, assignment);
+    first.or_else(|| find_forced(bars, true, variables, assignment))
 }
 
 // The shortest rules so far: how many undecided variables each has, and how often each variable is one of them.

@@ -1,38 +1,47 @@
-use Rattle.std.proofs.Common.{sym, ◌∙◌}
-use Rattle.networks.specs.Circuits.{computed}
+use Rattle.std.proofs.Common.{◌≡◌, Bool, true, List, length, Ok, Err, Result}
+use Rattle.search.specs.declared.Assignment.{Assignment}
+use Rattle.search.specs.Assignments.{agreeing}
+use Rattle.networks.specs.declared.lent_gates.Circuit.{Circuit}
+use Rattle.networks.specs.Circuits.{circuit_allows, computed}
 use Rattle.networks.proofs.Circuits.{computed_obeys}
-use Rattle.implications.specs.Implied.{Holds}
-use Rattle.implications.proofs.Sound.{holds_sound, refuted}
+use Rattle.implications.specs.declared.Contradiction.{Contradiction}
+use Rattle.implications.specs.declared.known.Implied.{Implied}
+use Rattle.implications.specs.Implied.{Implies}
 use Rattle.implications.proofs.Implying.{start_right}
 use Rattle.implications.proofs.imply.Goals as goal
 
-pub returns-then-is_contradiction : goal.returns-then-is_contradiction
-returns-then-is_contradiction c = record {
-  implied = λ x long ok fit.
-      let k = c.args.circuit in
-      let start : Holds (computed k.gates.now x) c.demand.result c.demand.new.values =
-      start_right k c.args.assignment x long ok fit c.first_values-values.result c.demand.new.values c.demand.result c.readable-output.result c.readable-output.ensures.literal c.first_values-values.ensures.length c.demand.ensures.demanded c.first_values-values.ensures.right in
-      refuted (computed k.gates.now x) c.demand.result c.demand.new.values (sym c.is_contradiction.ensures.contradiction ∙ c.if-is_contradiction.true) start;
-}
+-- where no setting is left, any answer is right
+none_left : (k : Circuit) (a : Assignment) (r : Result Implied Contradiction) → ((x : List Bool) → length x ≡ k.inputs → circuit_allows k x ≡ true → agreeing a x ≡ true → ⊥) → Implies k a r
+none_left k a (Err e) h = h
+none_left k a (Ok known) h = λ x long ok fit. absurd (h x long ok fit)
 
-pub returns-then-is_contradiction-2 : goal.returns-then-is_contradiction-2
-returns-then-is_contradiction-2 c = record {
-  implied = λ x long ok fit.
-      let k = c.args.circuit in
-      let V = computed k.gates.now x in
-      let start : Holds V c.demand.result c.demand.new.values =
-      start_right k c.args.assignment x long ok fit c.first_values-values.result c.demand.new.values c.demand.result c.readable-output.result c.readable-output.ensures.literal c.first_values-values.ensures.length c.demand.ensures.demanded c.first_values-values.ensures.right in
-      refuted V c.propagate.result c.propagate.new.values (sym c.is_contradiction-2.ensures.contradiction ∙ c.if-is_contradiction-2.true)
-      (c.propagate.ensures.right V (computed_obeys k.gates.now x k.inputs long) (holds_sound V c.demand.result c.demand.new.values start));
-}
+pub returns-in_err-demand : goal.returns-in_err-demand
+returns-in_err-demand c =
+    let k = c.args.circuit in
+    let first = c.at_first-known.result in
+    let found : Result (Unit {0}) Contradiction = Err c.in_err-demand.field-0.0 in
+    record {
+      implied = none_left k c.args.assignment c.from_residual.result
+          (λ x long ok fit. start_right k c.args.assignment x long ok fit first.values c.demand.new.self.values found c.readable.result c.readable.ensures.literal first.whole c.in_err-demand.ensures.demanded c.at_first-known.ensures.right);
+    }
+
+pub returns-in_err-propagate : goal.returns-in_err-propagate
+returns-in_err-propagate c =
+    let k = c.args.circuit in
+    let first = c.at_first-known.result in
+    record {
+      implied = none_left k c.args.assignment c.from_residual-in_err-propagate.result
+          (λ x long ok fit.
+          c.in_err-propagate.ensures.right (computed k.gates.now x) (computed_obeys k.gates.now x k.inputs long)
+          (start_right k c.args.assignment x long ok fit first.values c.demand.new.self.values (Ok c.in_ok-demand.field-0) c.readable.result c.readable.ensures.literal first.whole c.in_ok-demand.ensures.demanded c.at_first-known.ensures.right));
+    }
 
 pub returns : goal.returns
 returns c = record {
   implied = λ x long ok fit.
       let k = c.args.circuit in
       let V = computed k.gates.now x in
-      let start : Holds V c.demand.result c.demand.new.values =
-      start_right k c.args.assignment x long ok fit c.first_values-values.result c.demand.new.values c.demand.result c.readable-output.result c.readable-output.ensures.literal c.first_values-values.ensures.length c.demand.ensures.demanded c.first_values-values.ensures.right in
-      holds_sound V c.propagate.result c.propagate.new.values
-      (c.propagate.ensures.right V (computed_obeys k.gates.now x k.inputs long) (holds_sound V c.demand.result c.demand.new.values start));
+      let first = c.at_first-known.result in
+      c.in_ok-propagate.ensures.right V (computed_obeys k.gates.now x k.inputs long)
+      (start_right k c.args.assignment x long ok fit first.values c.demand.new.self.values (Ok c.in_ok-demand.field-0) c.readable.result c.readable.ensures.literal first.whole c.in_ok-demand.ensures.demanded c.at_first-known.ensures.right);
 }

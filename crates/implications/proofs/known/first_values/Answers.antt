@@ -1,8 +1,8 @@
 use Rattle.std.proofs.Common.{◌+◌, sym, ◌∙◌, subst, arith, length-set}
-use Rattle.implications.specs.Implied.{Agree}
+use Rattle.implications.specs.Ternaries.{Agree}
 use Rattle.implications.proofs.Sound.{sound_set}
 use Rattle.implications.proofs.Implying.{first_sound}
-use Rattle.implications.proofs.first_values.Goals as goal
+use Rattle.implications.proofs.known.first_values.Goals as goal
 
 pub loop-index-init : goal.loop-index-init
 loop-index-init c =

@@ -1,7 +1,0 @@
-use Rattle.std.proofs.Common.{ℕ, ◌+◌, Bool}
-use Rattle.networks.specs.Circuits.{Obeys}
-use Rattle.implications.specs.Implied.{Sound}
-use Rattle.implications.proofs.propagate.Given as goal
-
-abbrev pub invariant-loop : goal.invariant-loop
-invariant-loop l = (V : ℕ → Bool) → Obeys (l.circuit.inputs + 1) l.circuit.gates.now V → Sound l.initial.values V → Sound l.values V
