@@ -1,5 +1,5 @@
 -- The rules and bars that were added to a solver.
-use Rattle.std.specs.Prelude.{ℕ, Bool, true, false, not, ◌&&◌, List}
+use Rattle.std.specs.Prelude.{ℕ, Bool, not, ◌&&◌, List}
 use Rattle.tables.specs.Tables.{items}
 use Rattle.literals.specs.declared.LiteralSet.{LiteralSet}
 use Rattle.settings.specs.Settings.{all_met, any_covers}
@@ -15,11 +15,6 @@ bars_of a = items a.bars
 -- the meaning of a solver with so many contacts, a base set and these
 abbrev pub meaning_with : ℕ → (List Bool → Bool) → Additions → Meaning
 meaning_with n base a = record { contacts = n; base = base; added = rules_of a; bars = bars_of a }
-
--- some bar covers the setting (true); some rule is not met (false)
-abbrev pub any_against : Bool → List LiteralSet → List Bool → Bool
-any_against true bars x = any_covers bars x
-any_against false rules x = not (all_met rules x)
 
 -- every rule is met and no bar covers
 abbrev pub passes : Additions → List Bool → Bool

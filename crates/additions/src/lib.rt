@@ -1,12 +1,13 @@
 // The rules and bars that were added to a solver, of whatever kind it is.
 #![tactic(auto)]
 
-ghost use Rattle.std.specs.Prelude.{◌≡◌, [], ◌∷◌};
+ghost use Rattle.std.specs.Prelude.{◌≡◌, []};
 ghost use Rattle.tables.specs.Tables.{items};
+ghost use Rattle.settings.specs.Settings.{all_met, any_covers};
 ghost use Rattle.settings.specs.Readings.{reading};
 ghost use Rattle.faults.specs.declared.SolverFault.TheVariants.{TooManyRules, TooManyBars};
 ghost use Rattle.solver.specs.Meaning.{unnamed_fault, full_fault, outcome, appended};
-ghost use Rattle.additions.specs.Additions.{rules_of, bars_of, any_against, passes};
+ghost use Rattle.additions.specs.Additions.{rules_of, bars_of, passes};
 
 use faults::SolverFault;
 use literals::{LiteralSet, find_unnamed};
@@ -33,33 +34,21 @@ fn append(
     if let Some(place) = find_unnamed(n, literals) {
         return Err(SolverFault::BadLiteral(place));
     }
-    match held.push(LiteralSet::from(literals)) {
-        Ok(()) => Ok(()),
-        Err(_) => Err(full),
-    }
+    held.push(LiteralSet::from(literals)).map_err(|_| full)
 }
 
-// Whether the bar covers the setting, or the rule is not met.
-fn against(set: LiteralSet, n: usize, setting: Setting, as_bar: bool) -> bool
-    ensures against { result ≡ any_against as_bar (set ∷ []) (reading n setting) }
+// Whether a setting of n contacts meets every rule.
+fn all_met(rules: &[LiteralSet], n: usize, setting: Setting) -> bool
+    ensures met { result ≡ all_met rules.now (reading n setting) }
 {
-    if as_bar {
-        setting.is_covered(n, set)
-    } else {
-        !setting.meets_set(n, set)
-    }
+    rules.iter().all(|rule| setting.meets_set(n, *rule))
 }
 
-// Whether some bar covers the setting, or some rule is not met.
-fn any_against(sets: &[LiteralSet], n: usize, setting: Setting, as_bars: bool) -> bool
-    ensures any { result ≡ any_against as_bars sets.now (reading n setting) }
+// Whether some bar covers a setting of n contacts.
+fn any_covers(bars: &[LiteralSet], n: usize, setting: Setting) -> bool
+    ensures covered { result ≡ any_covers bars.now (reading n setting) }
 {
-    for set in sets {
-        if against(*set, n, setting, as_bars) {
-            return true;
-        }
-    }
-    false
+    bars.iter().any(|bar| setting.is_covered(n, *bar))
 }
 
 impl Additions {
@@ -114,6 +103,6 @@ impl Additions {
     pub fn allows(&self, n: usize, setting: Setting) -> bool
         ensures passed { result ≡ passes self.now (reading n setting) }
     {
-        !any_against(self.rules(), n, setting, false) && !any_against(self.bars(), n, setting, true)
+        all_met(self.rules(), n, setting) && !any_covers(self.bars(), n, setting)
     }
 }

@@ -58,10 +58,7 @@ fn pick_under<S: Solver>(solver: &mut S, front: &Table<i8, 32>) -> Option<Table<
     ensures earliest { option_map items result ≡ picked_under (meaning_of S.Solver solver.old) (items front.now) }
     ensures meaning_kept { meaning_of S.Solver solver.new ≡ meaning_of S.Solver solver.old }
 {
-    match earliest(solver, front) {
-        Ok(found) => found,
-        Err(_) => None,
-    }
+    earliest(solver, front).unwrap_or(None)
 }
 
 // The literals of the earliest of the standing settings that share the longest front with the given literals.

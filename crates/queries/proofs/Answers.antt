@@ -1,7 +1,8 @@
 -- What an answer of ASK tells.
-use Rattle.std.proofs.Common.{◌≡◌, ℕ, ◌≤◌, false, cond, List, length, ℤ, is_some, Some, None, Ok, Option, sym, refl, ap, ◌∙◌, subst, arith}
+use Rattle.std.proofs.Common.{◌≡◌, ℕ, ◌≤◌, false, cond, List, length, ℤ, is_some, Some, None, Ok, Err, Option, Result, sym, refl, ap, ◌∙◌, subst, arith}
 use Rattle.std.proofs.lemmas.List.FromFn.{length-map-range_with_len}
 use Rattle.std.proofs.lemmas.List.{length-take-le}
+use Rattle.std.specs.Result.{result_unwrap_or}
 use Rattle.tables.specs.declared.table.Table.{Table}
 use Rattle.tables.specs.Tables.{items}
 use Rattle.faults.specs.declared.SolverFault.{SolverFault}
@@ -59,3 +60,12 @@ answer-shown m ls (Some s) h = h
 -- what was told of a list, told of an equal one
 pub told : (m : Meaning) (ls held : List ℤ) (o : Option Setting) → ls ≡ held → Asked m ls (Ok o) → Asked m held (Ok o)
 told m ls held o same = subst (λ t. Asked m t (Ok o)) same
+
+-- of whatever ASK answered, a refusal taken for a no
+pub witness_found : (m : Meaning) (ls : List ℤ) (r : Result (Option Setting) SolverFault) → Asked m ls r → is_some (result_unwrap_or r None) ≡ possible_with m ls
+witness_found m ls (Ok o) h = answer-possible m ls o h
+witness_found m ls (Err f) h = refused-impossible m ls f h
+
+pub witness_shown : (m : Meaning) (ls : List ℤ) (r : Result (Option Setting) SolverFault) → Asked m ls r → Shown m ls (result_unwrap_or r None)
+witness_shown m ls (Ok o) h = answer-shown m ls o h.1
+witness_shown m ls (Err f) h = tt

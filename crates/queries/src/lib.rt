@@ -27,15 +27,13 @@ fn joined(front: &[i8], back: &[i8]) -> Table<i8, 65>
 }
 
 // A standing setting that agrees with all the literals; there is none where a literal names no contact.
+#[tactic(auto, using(crate::proofs::Answers::witness_found, crate::proofs::Answers::witness_shown))]
 pub fn witness<S: Solver>(solver: &mut S, literals: &[i8]) -> Option<Setting>
     ensures found { is_some result ≡ possible_with (meaning_of S.Solver solver.old) literals.now }
     ensures shown { Shown (meaning_of S.Solver solver.old) literals.now result }
     ensures meaning_kept { meaning_of S.Solver solver.new ≡ meaning_of S.Solver solver.old }
 {
-    match solver.ask(literals) {
-        Ok(found) => found,
-        Err(_) => None,
-    }
+    solver.ask(literals).unwrap_or(None)
 }
 
 // Keeps a literal where those kept and those behind it are not enough without it.

@@ -10,7 +10,7 @@ ghost use Rattle.tickets.specs.Tickets.{listed, tickets_of};
 use super::Outcome;
 use model::Side;
 use session::Pair;
-use session::request::{Answer, Request, Response, Returned, SheetCall};
+use session::request::{Answer, Refused, Request, Response, Returned, SheetCall};
 use sheets::Ticket;
 use solver::Solver;
 use tickets::Tickets;
@@ -27,14 +27,14 @@ pub fn ask<M: Solver, B: Solver>(
     ensures break_after { sheet_meaning B.Solver pair.new.brk ≡ break_after (sheet_meaning B.Solver pair.old.brk) request }
 {
     match pair.take_turn(request) {
-        Response::Accepted(answer) => match answer {
+        Ok(answer) => match answer {
             Answer::Done => Outcome::Done,
             Answer::Least(buffer) => Outcome::Least(contacts, buffer),
             Answer::Why(size, buffer) => Outcome::Why(size, buffer),
             Answer::Terms(count, buffer) => Outcome::Terms(contacts, count, buffer),
             _ => unreachable(),
         },
-        Response::Refused(fault, returned) => match returned {
+        Err(Refused { fault, returned }) => match returned {
             Returned::Nothing => Outcome::Refused(fault.refusal()),
             Returned::Literals(_) => Outcome::Refused(fault.refusal()),
             Returned::Terms(_) => Outcome::Refused(fault.refusal()),
@@ -66,7 +66,7 @@ pub fn assume<M: Solver, B: Solver>(
     ensures its_own { listed tickets.new ≡ tickets_of (sided side (sheet_meaning M.Solver pair.new.make) (sheet_meaning B.Solver pair.new.brk)) }
 {
     match put_assume(pair, side, literal) {
-        Response::Accepted(answer) => match answer {
+        Ok(answer) => match answer {
             Answer::Issued(ticket) => {
                 let outcome = Outcome::Issued(ticket.label(), ticket.number());
                 tickets.keep(ticket);
@@ -74,7 +74,7 @@ pub fn assume<M: Solver, B: Solver>(
             }
             _ => unreachable(),
         },
-        Response::Refused(fault, returned) => match returned {
+        Err(Refused { fault, returned }) => match returned {
             Returned::Nothing => Outcome::Refused(fault.refusal()),
             _ => unreachable(),
         },
@@ -105,11 +105,11 @@ fn bring<M: Solver, B: Solver>(
 {
     let ticket = tickets.take(place);
     match put_release(pair, side, ticket) {
-        Response::Accepted(answer) => match answer {
+        Ok(answer) => match answer {
             Answer::Done => Outcome::Done,
             _ => unreachable(),
         },
-        Response::Refused(fault, returned) => match returned {
+        Err(Refused { fault, returned }) => match returned {
             Returned::Ticket(ticket) => {
                 tickets.put_back(place, ticket);
                 Outcome::Refused(fault.refusal())

@@ -4,22 +4,23 @@ use Rattle.std.proofs.lemmas.List.{append_cancel_left, map-append}
 use Rattle.model.specs.Model.{PairModel}
 use Rattle.model.specs.Guarantee.{Event, calls_of, NewPair, AlikePairs, Guaranteed}
 use Rattle.session.specs.declared.request.Request.{Request}
-use Rattle.session.specs.declared.request.Response.{Response}
+use Rattle.session.specs.declared.request.Answer.{Answer}
+use Rattle.session.specs.declared.request.Refused.{Refused}
 use Rattle.session.specs.Requests.{asks, says, events}
 use Rattle.session.specs.Mirrors.{BothServed}
 
-calls_asked : (qs : List Request) (rs : List Response) → length rs ≡ length qs → calls_of (events qs rs) ≡ map asks qs
+calls_asked : (qs : List Request) (rs : List (Result Answer Refused)) → length rs ≡ length qs → calls_of (events qs rs) ≡ map asks qs
 calls_asked [] rs e = refl
 calls_asked (q ∷ qs) [] e = absurd (omega arith)
 calls_asked (q ∷ qs) (r ∷ rs) e = ap (λ cs. asks q ∷ cs) (calls_asked qs rs (omega arith))
 
-replies_said : (qs : List Request) (rs : List Response) → length rs ≡ length qs → map (λ e. e.reply) (events qs rs) ≡ map says rs
+replies_said : (qs : List Request) (rs : List (Result Answer Refused)) → length rs ≡ length qs → map (λ e. e.reply) (events qs rs) ≡ map says rs
 replies_said [] [] e = refl
 replies_said [] (r ∷ rs) e = absurd (omega arith)
 replies_said (q ∷ qs) [] e = absurd (omega arith)
 replies_said (q ∷ qs) (r ∷ rs) e = ap (λ cs. says r ∷ cs) (replies_said qs rs (omega arith))
 
-module _ (start start' : PairModel) (past past' : List Event) (qs qs' : List Request) (rs rs' : List Response) (many : length rs ≡ length qs) (many' : length rs' ≡ length qs') where
+module _ (start start' : PairModel) (past past' : List Event) (qs qs' : List Request) (rs rs' : List (Result Answer Refused)) (many : length rs ≡ length qs) (many' : length rs' ≡ length qs') where
   pub same_said : NewPair start' → AlikePairs start start' → calls_of past' ≡ calls_of past → map asks qs' ≡ map asks qs → Guaranteed start past → Guaranteed start' past' → Guaranteed start (past ++ events qs rs) → Guaranteed start' (past' ++ events qs' rs') → map says rs' ≡ map says rs
   same_said new alike before same g g' h h' =
       let called : map asks qs' ≡ map asks qs → calls_of (events qs' rs') ≡ calls_of (events qs rs) = λ e. calls_asked qs' rs' many' ∙ e ∙ sym (calls_asked qs rs many) in

@@ -8,13 +8,14 @@ use Rattle.model.specs.Guarantee.{Event, calls_of, after, ByTheModel}
 use Rattle.model.proofs.Runs.{joined_by}
 use Rattle.model.proofs.Whole.{onward}
 use Rattle.session.specs.declared.request.Request.{Request}
-use Rattle.session.specs.declared.request.Response.{Response}
+use Rattle.session.specs.declared.request.Answer.{Answer}
+use Rattle.session.specs.declared.request.Refused.{Refused}
 use Rattle.session.specs.Requests.{asks, says, event, events}
 use Rattle.session.specs.Mirrors.{Mirrors, Stands, Served}
 use Rattle.std.specs.declared.alloc.Global.{Global}
 use Rattle.session.proofs.Standing.{after_behind}
 
-events_more : (qs : List Request) (rs : List Response) (q : Request) (r : Response) → length rs ≡ length qs → events (qs ++ q ∷ []) (rs ++ r ∷ []) ≡ events qs rs ++ event q r ∷ []
+events_more : (qs : List Request) (rs : List (Result Answer Refused)) (q : Request) (r : Result Answer Refused) → length rs ≡ length qs → events (qs ++ q ∷ []) (rs ++ r ∷ []) ≡ events qs rs ++ event q r ∷ []
 events_more [] [] q r e = refl
 events_more [] (x ∷ rs) q r e = absurd (omega arith)
 events_more (y ∷ qs) [] q r e = absurd (omega arith)
@@ -22,7 +23,7 @@ events_more (y ∷ qs) (x ∷ rs) q r e = ap (λ es. event y x ∷ es) (events_m
 
 module _ {M B : Type 0} (m : Ghosts M) (b : Ghosts B) where
   -- what was served before the loop comes to those that wait
-  pub record Serving (pair₀ pair : Pair M B m b) (all waiting : List Request) (rs : List Response) : Type 0 where
+  pub record Serving (pair₀ pair : Pair M B m b) (all waiting : List Request) (rs : List (Result Answer Refused)) : Type 0 where
     pub front : List Request
     pub cut : front ++ waiting ≡ all
     pub as_many : length rs ≡ length front
@@ -36,7 +37,7 @@ module _ {M B : Type 0} (m : Ghosts M) (b : Ghosts B) where
     served = λ p h. record { as_many = refl; by_the_model = tt; here = h };
   }
 
-  module _ (pair₀ pair pair' : Pair M B m b) (all was now : List Request) (rs rs' : List Response) (q : Request) (r : Response) where
+  module _ (pair₀ pair pair' : Pair M B m b) (all was now : List Request) (rs rs' : List (Result Answer Refused)) (q : Request) (r : Result Answer Refused) where
     pub serving_more : Serving pair₀ pair all was rs → was ≡ q ∷ now → rs' ≡ rs ++ r ∷ [] → ((p : PairModel) → Mirrors m b pair p → (says r ≡ answered p (asks q)) × Mirrors m b pair' (next p (asks q))) → Serving pair₀ pair' all now rs'
     serving_more s taken placed turn = record {
       front = s.front ++ q ∷ [];
@@ -59,14 +60,14 @@ module _ {M B : Type 0} (m : Ghosts M) (b : Ghosts B) where
           }
 
   -- none waits: all were served
-  pub serving_all : (pair₀ pair : Pair M B m b) (all waiting : List Request) (rs : List Response) → length waiting ≡ 0 → Serving pair₀ pair all waiting rs → (p : PairModel) → Mirrors m b pair₀ p → Served m b pair p all rs
+  pub serving_all : (pair₀ pair : Pair M B m b) (all waiting : List Request) (rs : List (Result Answer Refused)) → length waiting ≡ 0 → Serving pair₀ pair all waiting rs → (p : PairModel) → Mirrors m b pair₀ p → Served m b pair p all rs
   serving_all pair₀ pair all [] rs none s p h =
       let whole : s.front ≡ all = sym (append-nil s.front) ∙ s.cut in
       subst (λ qs. Served m b pair p qs rs) whole (s.served p h)
   serving_all pair₀ pair all (q ∷ waiting) rs none s p h = absurd (omega arith)
 
   -- the guarantee goes on over a list that was served
-  pub list_goes_on : (pair₀ pair : Pair M B m b) (qs : List Request) (rs : List Response) → ((p : PairModel) → Mirrors m b pair₀ p → Served m b pair p qs rs) → (start : PairModel) (past : List Event) → Stands m b pair₀ start past → Stands m b pair start (past ++ events qs rs)
+  pub list_goes_on : (pair₀ pair : Pair M B m b) (qs : List Request) (rs : List (Result Answer Refused)) → ((p : PairModel) → Mirrors m b pair₀ p → Served m b pair p qs rs) → (start : PairModel) (past : List Event) → Stands m b pair₀ start past → Stands m b pair start (past ++ events qs rs)
   list_goes_on pair₀ pair qs rs served start past s =
       let d = served (after start (calls_of past)) s.here in
       record {
@@ -76,6 +77,6 @@ module _ {M B : Type 0} (m : Ghosts M) (b : Ghosts B) where
       }
 
   -- and over one that was served, or for which there was no memory
-  pub result_goes_on : (pair₀ pair : Pair M B m b) (qs : List Request) (r : Result (Vec Response Global) (Vec Request Global)) → ((p : PairModel) → Mirrors m b pair₀ p → MatchResult r (λ rs. Served m b pair p qs (vec_items rs)) (λ _. Mirrors m b pair p)) → (start : PairModel) (past : List Event) → Stands m b pair₀ start past → MatchResult r (λ rs. Stands m b pair start (past ++ events qs (vec_items rs))) (λ _. Stands m b pair start past)
+  pub result_goes_on : (pair₀ pair : Pair M B m b) (qs : List Request) (r : Result (Vec (Result Answer Refused) Global) (Vec Request Global)) → ((p : PairModel) → Mirrors m b pair₀ p → MatchResult r (λ rs. Served m b pair p qs (vec_items rs)) (λ _. Mirrors m b pair p)) → (start : PairModel) (past : List Event) → Stands m b pair₀ start past → MatchResult r (λ rs. Stands m b pair start (past ++ events qs (vec_items rs))) (λ _. Stands m b pair start past)
   result_goes_on pair₀ pair qs (Ok rs) served start past s = list_goes_on pair₀ pair qs (vec_items rs) served start past s
   result_goes_on pair₀ pair qs (Err back) kept start past s = record { new = s.new; guaranteed = s.guaranteed; here = kept (after start (calls_of past)) s.here }

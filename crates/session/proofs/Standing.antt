@@ -1,5 +1,5 @@
 -- A request on a pair that its model describes, and on one that came from new.
-use Rattle.std.proofs.Common.{◌≡◌, ◌≤◌, List, [], ◌∷◌, ◌++◌, sym, refl, ap, ◌∙◌, subst, ap₂, arith}
+use Rattle.std.proofs.Common.{◌≡◌, ◌≤◌, List, [], ◌∷◌, ◌++◌, Result, sym, refl, ap, ◌∙◌, subst, ap₂, arith}
 use Rattle.solver.specs.declared.Solver.{Ghosts}
 use Rattle.sheets.specs.declared.Sheet.{Sheet}
 use Rattle.sheets.specs.Sheets.{sheet_meaning}
@@ -9,7 +9,8 @@ use Rattle.model.specs.Guarantee.{Event, calls_of, after}
 use Rattle.model.proofs.Whole.{onward}
 use Rattle.session.specs.declared.pair.Pair.{Pair}
 use Rattle.session.specs.declared.request.Request.{Request}
-use Rattle.session.specs.declared.request.Response.{Response}
+use Rattle.session.specs.declared.request.Answer.{Answer}
+use Rattle.session.specs.declared.request.Refused.{Refused}
 use Rattle.session.specs.Requests.{asks, says, event}
 use Rattle.session.specs.Served.{request_reply, make_after, break_after}
 use Rattle.session.specs.Mirrors.{meaning_of, Mirrors, Stands}
@@ -26,7 +27,7 @@ few_contacts v x s means =
     let same : v.size x.solver ≡ s.contacts = ap (λ z. z.meaning.contacts) means in
     omega arith
 
-module _ {M B : Type 0} (m : Ghosts M) (b : Ghosts B) (pair pair' : Pair M B m b) (q : Request) (r : Response) where
+module _ {M B : Type 0} (m : Ghosts M) (b : Ghosts B) (pair pair' : Pair M B m b) (q : Request) (r : Result Answer Refused) where
   module _ (said : says r ≡ request_reply (sheet_meaning m pair.make) (sheet_meaning b pair.brk) q) (made : sheet_meaning m pair'.make ≡ make_after (sheet_meaning m pair.make) q) (broken : sheet_meaning b pair'.brk ≡ break_after (sheet_meaning b pair.brk) q) where
     pub mirrored : (p : PairModel) → Mirrors m b pair p → (says r ≡ answered p (asks q)) × Mirrors m b pair' (next p (asks q))
     mirrored p h =

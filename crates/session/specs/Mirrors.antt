@@ -8,7 +8,8 @@ use Rattle.model.specs.Model.{SheetModel, PairModel}
 use Rattle.model.specs.Guarantee.{Event, calls_of, after, NewPair, ByTheModel, Guaranteed}
 use Rattle.session.specs.declared.pair.Pair.{Pair}
 use Rattle.session.specs.declared.request.Request.{Request}
-use Rattle.session.specs.declared.request.Response.{Response}
+use Rattle.session.specs.declared.request.Answer.{Answer}
+use Rattle.session.specs.declared.request.Refused.{Refused}
 use Rattle.session.specs.Requests.{events}
 
 -- what a sheet means that its model describes: the settings allowed when new are its solver's base set, and its rules are held as the sets of their literals
@@ -46,7 +47,7 @@ module _ {M B : Type 0} (m : Ghosts M) (b : Ghosts B) (pair : Pair M B m b) wher
     pub here : Mirrors (after start (calls_of past))
 
   -- a list of requests was served, from where the model describes the pair: each response is the model's, and the model that the requests bring describes the pair behind them
-  pub record Served (p : PairModel) (requests : List Request) (responses : List Response) : Type 0 where
+  pub record Served (p : PairModel) (requests : List Request) (responses : List (Result Answer Refused)) : Type 0 where
     pub as_many : length responses ≡ length requests
     pub by_the_model : ByTheModel p (events requests responses)
     pub here : Mirrors (after p (calls_of (events requests responses)))

@@ -1,5 +1,5 @@
 -- What requests ask and what responses say, in the words of the reference model.
-use Rattle.std.specs.Prelude.{List, [], ◌∷◌, vec_items}
+use Rattle.std.specs.Prelude.{List, [], ◌∷◌, Ok, Err, vec_items, Result}
 use Rattle.faults.specs.Refusals.{sheet_refusal}
 use Rattle.model.specs.declared.Side.{Side}
 use Rattle.model.specs.Calls.{Call, RULE, ASSUME, RELEASE, LEAST, WHY, TERMS, Answer as Said, done, issued, least_written, reason_written, terms_written, Returned as Brought, nothing, same_ticket, same_literals, same_terms, Reply, accepted, denied}
@@ -12,8 +12,7 @@ use Rattle.session.specs.declared.request.Answer.{Answer}
 use Rattle.session.specs.declared.request.Answer.TheVariants.{Done, Issued, Least, Why, Terms}
 use Rattle.session.specs.declared.request.Returned.{Returned}
 use Rattle.session.specs.declared.request.Returned.TheVariants.{Nothing, Ticket, Literals, Terms as Records}
-use Rattle.session.specs.declared.request.Response.{Response}
-use Rattle.session.specs.declared.request.Response.TheVariants.{Accepted, Refused}
+use Rattle.session.specs.declared.request.Refused.{Refused}
 
 -- the call that a request makes
 abbrev pub asks_on : Side → SheetCall → Call
@@ -41,15 +40,15 @@ hands_back (Ticket t) = same_ticket t
 hands_back (Literals v) = same_literals (vec_items v)
 hands_back (Records v) = same_terms (vec_items v)
 
-abbrev pub says : Response → Reply
-says (Accepted a) = accepted (answer_says a)
-says (Refused f back) = denied (sheet_refusal f) (hands_back back)
+abbrev pub says : Result Answer Refused → Reply
+says (Ok a) = accepted (answer_says a)
+says (Err r) = denied (sheet_refusal r.fault) (hands_back r.returned)
 
 -- a request with its response; several, one after the other
-abbrev pub event : Request → Response → Event
+abbrev pub event : Request → Result Answer Refused → Event
 event q r = record { call = asks q; reply = says r }
 
-abbrev pub events : List Request → List Response → List Event
+abbrev pub events : List Request → List (Result Answer Refused) → List Event
 events [] rs = []
 events (q ∷ qs) [] = []
 events (q ∷ qs) (r ∷ rs) = event q r ∷ events qs rs

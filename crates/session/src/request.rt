@@ -1,8 +1,11 @@
 // What engineers ask of a pair of sheets, and what they are answered.
+ghost use Rattle.std.specs.Prelude.{◌≡◌};
+ghost use Rattle.session.specs.declared.request.Returned.TheVariants.{Nothing, Ticket};
+
 use faults::SheetFault;
 use model::Side;
 use settings::Term;
-use sheets::Ticket;
+use sheets::{Ticket, Unreleased};
 
 // A call on one sheet brings literals, a buffer of its own or any ticket.
 pub enum SheetCall {
@@ -38,7 +41,35 @@ pub enum Returned {
     Terms(Vec<Term>),
 }
 
-pub enum Response {
-    Accepted(Answer),
-    Refused(SheetFault, Returned),
+// A refused request: the fault, and what it brought.
+pub struct Refused {
+    pub fault: SheetFault,
+    pub returned: Returned,
+}
+
+pub type Response = Result<Answer, Refused>;
+
+impl From<SheetFault> for Refused {
+    ghost from_gives = { λ f r. r ≡ record { fault = f; returned = Nothing } };
+
+    // It brought nothing that goes back.
+    fn from(fault: SheetFault) -> Self {
+        Refused {
+            fault,
+            returned: Returned::Nothing,
+        }
+    }
+}
+
+impl From<Unreleased> for Refused {
+    ghost from_gives = { λ u r. r ≡ record { fault = u.fault; returned = Ticket u.ticket } };
+
+    // It brought the ticket.
+    fn from(unreleased: Unreleased) -> Self {
+        let Unreleased { fault, ticket } = unreleased;
+        Refused {
+            fault,
+            returned: Returned::Ticket(ticket),
+        }
+    }
 }

@@ -11,11 +11,11 @@ ghost use Rattle.session.specs.Served.{call_reply, call_next, request_reply, mak
 ghost use Rattle.session.specs.Mirrors.{Mirrors, Stands};
 
 use crate::Pair;
-use crate::request::{Answer, Request, Response, Returned, SheetCall};
+use crate::request::{Answer, Refused, Request, Response, Returned, SheetCall};
 use faults::SheetFault;
 use model::Side;
 use settings::Term;
-use sheets::{Sheet, Unreleased};
+use sheets::Sheet;
 use solver::Solver;
 use terms::terms;
 
@@ -43,25 +43,28 @@ fn serve_call<S: Solver>(sheet: &mut Sheet<S>, call: SheetCall) -> Response
     ensures meaning { sheet_meaning S.Solver sheet.new ≡ call_next (sheet_meaning S.Solver sheet.old) call }
 {
     match call {
-        SheetCall::Rule(literals) => match sheet.rule(literals.as_slice()) {
-            Ok(()) => Response::Accepted(Answer::Done),
-            Err(fault) => Response::Refused(fault, Returned::Nothing),
-        },
-        SheetCall::Assume(literal) => match sheet.assume(literal) {
-            Ok(ticket) => Response::Accepted(Answer::Issued(ticket)),
-            Err(fault) => Response::Refused(fault, Returned::Nothing),
-        },
-        SheetCall::Release(ticket) => match sheet.release(ticket) {
-            Ok(()) => Response::Accepted(Answer::Done),
-            Err(Unreleased { fault, ticket }) => Response::Refused(fault, Returned::Ticket(ticket)),
-        },
+        SheetCall::Rule(literals) => {
+            sheet.rule(literals.as_slice())?;
+            Ok(Answer::Done)
+        }
+        SheetCall::Assume(literal) => Ok(Answer::Issued(sheet.assume(literal)?)),
+        SheetCall::Release(ticket) => {
+            sheet.release(ticket)?;
+            Ok(Answer::Done)
+        }
         SheetCall::Least(mut buffer) => match least_into(sheet, &mut buffer) {
-            Ok(()) => Response::Accepted(Answer::Least(buffer)),
-            Err(fault) => Response::Refused(fault, Returned::Literals(buffer)),
+            Ok(()) => Ok(Answer::Least(buffer)),
+            Err(fault) => Err(Refused {
+                fault,
+                returned: Returned::Literals(buffer),
+            }),
         },
         SheetCall::Why(mut buffer) => match why_into(sheet, &mut buffer) {
-            Ok(size) => Response::Accepted(Answer::Why(size, buffer)),
-            Err(fault) => Response::Refused(fault, Returned::Literals(buffer)),
+            Ok(size) => Ok(Answer::Why(size, buffer)),
+            Err(fault) => Err(Refused {
+                fault,
+                returned: Returned::Literals(buffer),
+            }),
         },
     }
 }
@@ -89,8 +92,11 @@ impl<M: Solver, B: Solver> Pair<M, B> {
                 Side::Break => serve_call(&mut self.brk, call),
             },
             Request::Terms(mut buffer) => match self.terms_into(&mut buffer) {
-                Ok(count) => Response::Accepted(Answer::Terms(count, buffer)),
-                Err(fault) => Response::Refused(fault, Returned::Terms(buffer)),
+                Ok(count) => Ok(Answer::Terms(count, buffer)),
+                Err(fault) => Err(Refused {
+                    fault,
+                    returned: Returned::Terms(buffer),
+                }),
             },
         }
     }

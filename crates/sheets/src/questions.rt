@@ -40,10 +40,7 @@ impl<S: Solver> Sheet<S> {
         ensures meaning_kept { sheet_meaning S.Solver self.new ≡ sheet_meaning S.Solver self.old }
     {
         let held = literals_of(&self.held);
-        match earliest(&mut self.solver, &held) {
-            Ok(found) => found,
-            Err(_) => unreachable(),
-        }
+        earliest(&mut self.solver, &held).unwrap()
     }
 
     // The choice of smallest number of the held assumptions that is enough.
@@ -52,10 +49,7 @@ impl<S: Solver> Sheet<S> {
         ensures meaning_kept { sheet_meaning S.Solver self.new ≡ sheet_meaning S.Solver self.old }
     {
         let held = literals_of(&self.held);
-        match reason(&mut self.solver, &held) {
-            Ok(found) => found,
-            Err(_) => unreachable(),
-        }
+        reason(&mut self.solver, &held).unwrap()
     }
 
     // LEAST by its definition: the buffer is asked for first, and then whether a setting is allowed.
@@ -67,14 +61,9 @@ impl<S: Solver> Sheet<S> {
         if out.len() < self.solver.contacts() {
             return Err(SheetFault::ShortBuffer);
         }
-        let found = self.earliest_held();
-        match found {
-            None => Err(SheetFault::NoneAllowed),
-            Some(found) => {
-                write_front(out, found.as_slice());
-                Ok(())
-            }
-        }
+        let found = self.earliest_held().ok_or(SheetFault::NoneAllowed)?;
+        write_front(out, found.as_slice());
+        Ok(())
     }
 
     // WHY by its definition: the buffer is asked for first, and then whether no setting is allowed.
@@ -86,14 +75,9 @@ impl<S: Solver> Sheet<S> {
         if out.len() < self.held.len() {
             return Err(SheetFault::ShortBuffer);
         }
-        let choice = self.reason_held();
-        match choice {
-            None => Err(SheetFault::SomeAllowed),
-            Some(choice) => {
-                write_front(out, choice.as_slice());
-                Ok(choice.len())
-            }
-        }
+        let choice = self.reason_held().ok_or(SheetFault::SomeAllowed)?;
+        write_front(out, choice.as_slice());
+        Ok(choice.len())
     }
 
     // LEAST: writes the earliest allowed setting that agrees with all held assumptions, as literals in contact order at the buffer's front.

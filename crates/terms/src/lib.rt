@@ -87,16 +87,8 @@ fn gather<M: Solver, B: Solver>(make: &mut M, brk: &mut B) -> Result<Table<Term,
         closed: 0,
         opened: 0,
     });
-    loop {
-        match next_term(make, brk, &mut last, &mut terms) {
-            Ok(made) => {
-                if !made {
-                    return Ok(terms);
-                }
-            }
-            Err(fault) => return Err(fault),
-        }
-    }
+    while next_term(make, brk, &mut last, &mut terms)? {}
+    Ok(terms)
 }
 
 // The terms of two solvers, made and struck; MAKE is left with no bar.

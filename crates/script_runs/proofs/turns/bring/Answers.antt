@@ -31,7 +31,7 @@ returns-in-Done g c =
     let place = c.args.place in
     let t = c.take-ticket.result in
     let same : t ≡ ticket_at ts place = c.take-ticket.ensures.taken ∙ get_or_default ts place t _ c.requires.there in
-    let told = c.in-Accepted.ensures in
+    let told = c.in-Ok.ensures in
     let said : accepted done ≡ release_reply s t = ap (λ a. accepted (answer_says a)) (sym c.in-Done.is) ∙ told.answer in
     record {
       answer = ap (shown 0) said ∙ ap (λ u. shown 0 (release_reply s u)) same;
@@ -51,8 +51,8 @@ returns-in-Ticket g c =
     let t = c.take-ticket.result in
     let u = c.in-Ticket.ticket in
     let same : t ≡ ticket_at ts place = c.take-ticket.ensures.taken ∙ get_or_default ts place t _ c.requires.there in
-    let told = c.in-Refused.ensures in
-    let fault = sheet_refusal c.in-Refused.fault in
+    let told = c.in-Err.ensures in
+    let fault = sheet_refusal c.in-Err.field-0.fault in
     let said : denied fault (same_ticket u) ≡ release_reply s t = ap (λ r. denied fault (hands_back r)) (sym c.in-Ticket.is) ∙ told.answer in
     let back = handed_back s t u fault said in
     record {
