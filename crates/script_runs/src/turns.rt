@@ -8,6 +8,7 @@ ghost use Rattle.script_runs.specs.Obeyed.{sided, assume_reply, make_assumed, br
 ghost use Rattle.tickets.specs.Tickets.{listed, tickets_of};
 
 use super::Outcome;
+use faults::Refusal;
 use model::Side;
 use session::Pair;
 use session::request::{Answer, Refused, Request, Response, Returned, SheetCall};
@@ -35,9 +36,9 @@ pub fn ask<M: Solver, B: Solver>(
             _ => unreachable(),
         },
         Err(Refused { fault, returned }) => match returned {
-            Returned::Nothing => Outcome::Refused(fault.refusal()),
-            Returned::Literals(_) => Outcome::Refused(fault.refusal()),
-            Returned::Terms(_) => Outcome::Refused(fault.refusal()),
+            Returned::Nothing => Outcome::Refused(Refusal::from(fault)),
+            Returned::Literals(_) => Outcome::Refused(Refusal::from(fault)),
+            Returned::Terms(_) => Outcome::Refused(Refusal::from(fault)),
             _ => unreachable(),
         },
     }
@@ -75,7 +76,7 @@ pub fn assume<M: Solver, B: Solver>(
             _ => unreachable(),
         },
         Err(Refused { fault, returned }) => match returned {
-            Returned::Nothing => Outcome::Refused(fault.refusal()),
+            Returned::Nothing => Outcome::Refused(Refusal::from(fault)),
             _ => unreachable(),
         },
     }
@@ -112,7 +113,7 @@ fn bring<M: Solver, B: Solver>(
         Err(Refused { fault, returned }) => match returned {
             Returned::Ticket(ticket) => {
                 tickets.put_back(place, ticket);
-                Outcome::Refused(fault.refusal())
+                Outcome::Refused(Refusal::from(fault))
             }
             _ => unreachable(),
         },

@@ -6,7 +6,7 @@ ghost use Rattle.script_runs.specs.Writing.{write_outcome};
 
 use super::{Outcome, Source};
 use dimacs_write::write;
-use faults::SheetFault;
+use faults::{Refusal, SheetFault};
 use literals::LiteralSet;
 use std::alloc::{AllocError, Global};
 
@@ -28,7 +28,7 @@ pub fn write_rules(heap: Global, source: Source, length: u16) -> Result<Outcome,
             let mut buffer = vec![in heap; 0; length as usize]?;
             match write_into(vars, rules, &mut buffer) {
                 Ok(size) => Ok(Outcome::Written(size, buffer)),
-                Err(fault) => Ok(Outcome::Refused(fault.refusal())),
+                Err(fault) => Ok(Outcome::Refused(Refusal::from(fault))),
             }
         }
     }

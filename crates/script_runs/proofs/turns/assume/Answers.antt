@@ -63,7 +63,7 @@ returns-in-Nothing g c =
     let make_now : sheet_meaning g.M.Solver c.put_assume.new.pair.make ≡ make_assumed side m l = told.make_after ∙ ap (make_assumed side m) lit in
     let break_now : sheet_meaning g.B.Solver c.put_assume.new.pair.brk ≡ break_assumed side b l = told.break_after ∙ ap (break_assumed side b) lit in
     record {
-      answer = ap refused c.refusal.ensures.numbered ∙ ap (shown 0) said;
+      answer = ap refused c.from.ensures ∙ ap (shown 0) said;
       make_after = make_now;
       break_after = break_now;
       its_own = when_refused s l fault nothing (listed c.args.tickets.now) said c.requires.its_own

@@ -56,7 +56,7 @@ returns-in-Ticket g c =
     let said : denied fault (same_ticket u) ≡ release_reply s t = ap (λ r. denied fault (hands_back r)) (sym c.in-Ticket.is) ∙ told.answer in
     let back = handed_back s t u fault said in
     record {
-      answer = ap refused c.refusal.ensures.numbered ∙ ap (shown 0) said ∙ ap (λ v. shown 0 (release_reply s v)) same;
+      answer = ap refused c.from.ensures ∙ ap (shown 0) said ∙ ap (λ v. shown 0 (release_reply s v)) same;
       make_after = told.make_after ∙ ap (make_released side m) same;
       break_after = told.break_after ∙ ap (break_released side b) same;
       tickets = c.put_back.ensures.placed
