@@ -1,41 +1,28 @@
 // The limits of sheets with one contact and no rules at first.
-ghost use Rattle.sheets.specs.Sheets.{InOrder};
-
-use super::lines::{print_done, print_literals, print_refusal};
+use super::lines::{Done, Written};
 use clauses::ClauseSolver;
 use clauses::counts::VariableCounts;
-use enumerated::{ContactCount, ListSolver};
+use enumerated::ListSolver;
 use faults::SheetFault;
 use settings::Setting;
 use sheets::Sheet;
-use solver::Solver;
+use solver::{ContactCount, Solver};
 use std::io;
-use trials::least_under;
+use trials::{Question, ask_under};
 use witnesses::WitnessCache;
 
 // Adds 64 rules.
-fn add_rules<S: Solver>(sheet: &mut Sheet<S>) -> Result<(), SheetFault>
-    requires in_order { InOrder S.Solver sheet.old }
-    ensures in_order { InOrder S.Solver sheet.new }
-{
+fn add_rules<S: Solver>(sheet: &mut Sheet<S>) -> Result<(), SheetFault> {
     for _ in 0..64 {
-        if let Err(fault) = sheet.rule(&[1]) {
-            return Err(fault);
-        }
+        sheet.rule(&[1])?;
     }
     Ok(())
 }
 
 // Has 65,535 tickets issued, each given back before the next.
-fn issue_tickets<S: Solver>(sheet: &mut Sheet<S>) -> Result<(), SheetFault>
-    requires in_order { InOrder S.Solver sheet.old }
-    ensures in_order { InOrder S.Solver sheet.new }
-{
+fn issue_tickets<S: Solver>(sheet: &mut Sheet<S>) -> Result<(), SheetFault> {
     for _ in 0..65_535 {
-        let mut out = [0; 1];
-        if let Err(fault) = least_under(sheet, &[1], &mut out) {
-            return Err(fault);
-        }
+        let _ = ask_under(sheet, Question::Least, &[1], &mut [0; 1])?;
     }
     Ok(())
 }
@@ -46,14 +33,11 @@ fn print_rule<S: Solver>(
     sheet: &mut Sheet<S>,
     literals: &[i8],
     due: &str,
-) -> io::Result<()>
-    requires in_order { InOrder S.Solver sheet.old }
-    ensures in_order { InOrder S.Solver sheet.new }
-{
-    let answer = sheet.rule(literals);
-    print!(rt; "{name}:")?;
-    print_done(rt, answer)?;
-    println!(rt; " (due {due})")
+) -> io::Result<()> {
+    let done = Done {
+        answer: sheet.rule(literals),
+    };
+    println!(rt; "{name}: {done} (due {due})")
 }
 
 fn print_least<S: Solver>(
@@ -62,21 +46,18 @@ fn print_least<S: Solver>(
     sheet: &mut Sheet<S>,
     held: &[i8],
     due: &str,
-) -> io::Result<()>
-    requires in_order { InOrder S.Solver sheet.old }
-    ensures in_order { InOrder S.Solver sheet.new }
-{
-    let mut out = [0; 1];
-    let answer = least_under(sheet, held, &mut out);
-    print!(rt; "{name}:")?;
-    print_literals(rt, &out, answer)?;
-    println!(rt; " (due {due})")
+) -> io::Result<()> {
+    let mut buffer = [0; 1];
+    let answer = ask_under(sheet, Question::Least, held, &mut buffer);
+    let written = Written {
+        answer,
+        buffer: &buffer,
+    };
+    println!(rt; "{name}:{written} (due {due})")
 }
 
 // Literals that name no contact, and as many held as may be, and one more.
-fn ask_held<S: Solver + Drop>(rt: &impl Print, solver: S) -> io::Result<()>
-    requires ordered { S.Solver.ordered solver }
-{
+fn ask_held<S: Solver + Drop>(rt: &impl Print, solver: S) -> io::Result<()> {
     let mut sheet = Sheet::open(solver, 1);
     print_rule(rt, "rule of -128", &mut sheet, &[-128], "refused 5 0")?;
     print_rule(rt, "rule of 1 and 2", &mut sheet, &[1, 2], "refused 5 1")?;
@@ -86,53 +67,28 @@ fn ask_held<S: Solver + Drop>(rt: &impl Print, solver: S) -> io::Result<()>
 }
 
 // As many rules as may be added, and one more.
-fn ask_rules<S: Solver + Drop>(rt: &impl Print, solver: S) -> io::Result<()>
-    requires ordered { S.Solver.ordered solver }
-{
+fn ask_rules<S: Solver + Drop>(rt: &impl Print, solver: S) -> io::Result<()> {
     let mut sheet = Sheet::open(solver, 1);
-    let answer = add_rules(&mut sheet);
-    print!(rt; "64 rules:")?;
-    print_done(rt, answer)?;
-    println!(rt; " (due accepted)")?;
+    let done = Done {
+        answer: add_rules(&mut sheet),
+    };
+    println!(rt; "64 rules: {done} (due accepted)")?;
     print_rule(rt, "rule 65", &mut sheet, &[1], "refused 6 0")
 }
 
 // As many tickets as may be issued, and one more.
-fn ask_tickets<S: Solver + Drop>(rt: &impl Print, solver: S) -> io::Result<()>
-    requires ordered { S.Solver.ordered solver }
-{
+fn ask_tickets<S: Solver + Drop>(rt: &impl Print, solver: S) -> io::Result<()> {
     let mut sheet = Sheet::open(solver, 1);
-    let answer = issue_tickets(&mut sheet);
-    print!(rt; "65535 tickets:")?;
-    print_done(rt, answer)?;
-    println!(rt; " (due accepted)")?;
+    let done = Done {
+        answer: issue_tickets(&mut sheet),
+    };
+    println!(rt; "65535 tickets: {done} (due accepted)")?;
     print_least(rt, "ticket 65536", &mut sheet, &[1], "refused 8 0")
 }
 
-fn run_clauses(rt: &impl Print) -> io::Result<()> {
-    match VariableCounts::new(1, 1) {
-        Err(fault) => print_refusal(rt, fault),
-        Ok(counts) => ask_held(rt, ClauseSolver::new(&[], counts)),
-    }
-}
-
-fn run_cache(rt: &impl Print) -> io::Result<()> {
-    match VariableCounts::new(1, 1) {
-        Err(fault) => print_refusal(rt, fault),
-        Ok(counts) => ask_rules(rt, WitnessCache::new(ClauseSolver::new(&[], counts))),
-    }
-}
-
-fn run_list(rt: &impl Print) -> io::Result<()> {
+pub fn run(rt: &impl Print, counts: VariableCounts, count: ContactCount) -> io::Result<()> {
     let all = [Setting { closed: 0 }, Setting { closed: 1 }];
-    match ContactCount::new(1) {
-        Err(fault) => print_refusal(rt, fault),
-        Ok(count) => ask_tickets(rt, ListSolver::new(&all, count)),
-    }
-}
-
-pub fn run(rt: &impl Print) -> io::Result<()> {
-    run_clauses(rt)?;
-    run_cache(rt)?;
-    run_list(rt)
+    ask_held(rt, ClauseSolver::new(&[], counts))?;
+    ask_rules(rt, WitnessCache::new(ClauseSolver::new(&[], counts)))?;
+    ask_tickets(rt, ListSolver::new(&all, count))
 }

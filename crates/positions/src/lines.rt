@@ -1,36 +1,48 @@
 // How an answer is printed.
-use faults::SheetFault;
-use std::io;
+use faults::{Refusal, SheetFault};
+use literals::Spaced;
+use std::fmt;
 
-pub fn print_refusal(rt: &impl Print, fault: SheetFault) -> io::Result<()> {
-    let refusal = fault.refusal();
-    let number = refusal.number;
-    let place = refusal.place;
-    print!(rt; " refused {number} {place}")
+// A call that writes nothing.
+#[derive(Clone, Copy)]
+pub struct Done {
+    pub answer: Result<(), SheetFault>,
 }
 
-// The literals at the buffer's front, or the refusal.
-pub fn print_literals(
-    rt: &impl Print,
-    out: &[i8],
-    answer: Result<usize, SheetFault>,
-) -> io::Result<()> {
-    match answer {
-        Err(fault) => print_refusal(rt, fault),
-        Ok(0) => print!(rt; " none"),
-        Ok(size) => {
-            for literal in out.iter().take(size) {
-                print!(rt; " {literal}")?;
+// A question, with the buffer that it wrote to.
+#[derive(Clone, Copy)]
+pub struct Written<'a> {
+    pub answer: Result<usize, SheetFault>,
+    pub buffer: &'a [i8],
+}
+
+impl fmt::Display for Done {
+    fn fmt<W: fmt::Write>(&self, f: &mut fmt::Formatter<W>) -> fmt::Result {
+        match self.answer {
+            Ok(()) => write!(f, "accepted"),
+            Err(fault) => {
+                let refusal = Refusal::from(fault).brief();
+                write!(f, "{refusal}")
             }
-            Ok(())
         }
     }
 }
 
-// A call that writes nothing.
-pub fn print_done(rt: &impl Print, answer: Result<(), SheetFault>) -> io::Result<()> {
-    match answer {
-        Err(fault) => print_refusal(rt, fault),
-        Ok(()) => print!(rt; " accepted"),
+// The literals at the buffer's front, each with a space before it, or the refusal.
+impl fmt::Display for Written<'_> {
+    fn fmt<W: fmt::Write>(&self, f: &mut fmt::Formatter<W>) -> fmt::Result {
+        match self.answer {
+            Ok(0) => write!(f, " none"),
+            Ok(size) => {
+                let spaced = Spaced {
+                    literals: &self.buffer[0..size.min(self.buffer.len())],
+                };
+                write!(f, "{spaced}")
+            }
+            Err(fault) => {
+                let refusal = Refusal::from(fault).brief();
+                write!(f, " {refusal}")
+            }
+        }
     }
 }

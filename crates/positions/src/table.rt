@@ -1,13 +1,14 @@
 // Questions to sheets over clause texts, each put to a clause solver and to one behind a cache of witnesses.
-use super::lines::{print_literals, print_refusal};
+use super::lines::Written;
 use clauses::ClauseSolver;
 use clauses::counts::VariableCounts;
 use dimacs_load::load;
+use faults::{Refusal, SheetFault};
 use literals::LiteralSet;
 use sheets::Sheet;
 use solver::Solver;
 use std::io;
-use trials::{least_under, why_under};
+use trials::{Question, ask_under};
 use witnesses::WitnessCache;
 
 // LEAST, or WHY, while some literals are held, of a text whose first variables are the contacts.
@@ -15,7 +16,7 @@ struct Position {
     name: &'static str,
     text: &'static [u8],
     contacts: usize,
-    why: bool,
+    question: Question,
     held: &'static [i8],
     due: &'static str,
 }
@@ -28,7 +29,7 @@ const POSITIONS: [Position; 8] = [
         name: "least",
         text: CHAIN,
         contacts: 3,
-        why: false,
+        question: Question::Least,
         held: &[],
         due: "-1 2 -3",
     },
@@ -36,7 +37,7 @@ const POSITIONS: [Position; 8] = [
         name: "least, 1 held",
         text: CHAIN,
         contacts: 3,
-        why: false,
+        question: Question::Least,
         held: &[1],
         due: "1 -2 3",
     },
@@ -44,7 +45,7 @@ const POSITIONS: [Position; 8] = [
         name: "least, 1 and -3 held",
         text: CHAIN,
         contacts: 3,
-        why: false,
+        question: Question::Least,
         held: &[1, -3],
         due: "refused 11 0",
     },
@@ -52,7 +53,7 @@ const POSITIONS: [Position; 8] = [
         name: "why, 1 and -3 held",
         text: CHAIN,
         contacts: 3,
-        why: true,
+        question: Question::Why,
         held: &[1, -3],
         due: "1 -3",
     },
@@ -61,7 +62,7 @@ const POSITIONS: [Position; 8] = [
         name: "why, smallest number",
         text: b"p cnf 3 2\n-1 0\n-2 -3 0\n",
         contacts: 3,
-        why: true,
+        question: Question::Why,
         held: &[1, 2, 3],
         due: "2 3",
     },
@@ -70,7 +71,7 @@ const POSITIONS: [Position; 8] = [
         name: "why, empty rule",
         text: b"p cnf 1 1\n0\n",
         contacts: 1,
-        why: true,
+        question: Question::Why,
         held: &[],
         due: "none",
     },
@@ -78,7 +79,7 @@ const POSITIONS: [Position; 8] = [
         name: "why, 1 held twice",
         text: b"p cnf 1 1\n-1 0\n",
         contacts: 1,
-        why: true,
+        question: Question::Why,
         held: &[1, 1],
         due: "1",
     },
@@ -86,7 +87,7 @@ const POSITIONS: [Position; 8] = [
         name: "least, inner variable",
         text: b"p cnf 2 2\n1 2 0\n-2 0\n",
         contacts: 1,
-        why: false,
+        question: Question::Least,
         held: &[],
         due: "1",
     },
@@ -97,61 +98,39 @@ fn ask<S: Solver + Drop>(
     kind: &str,
     solver: S,
     position: &Position,
-) -> io::Result<()>
-    requires ordered { S.Solver.ordered solver }
-{
+) -> io::Result<()> {
     let mut sheet = Sheet::open(solver, 1);
-    let mut out = [0; 32];
-    let answer = if position.why {
-        why_under(&mut sheet, position.held, &mut out)
-    } else {
-        least_under(&mut sheet, position.held, &mut out)
-    };
+    let mut buffer = [0; 32];
+    let answer = ask_under(&mut sheet, position.question, position.held, &mut buffer);
     let name = position.name;
-    print!(rt; "{name}, {kind}:")?;
-    print_literals(rt, &out, answer)?;
+    let written = Written {
+        answer,
+        buffer: &buffer,
+    };
     let due = position.due;
-    println!(rt; " (due {due})")
+    println!(rt; "{name}, {kind}:{written} (due {due})")
 }
 
-fn ask_clauses(
-    rt: &impl Print,
-    rules: &[LiteralSet],
-    variables: usize,
-    position: &Position,
-) -> io::Result<()> {
-    match VariableCounts::new(variables, position.contacts) {
-        Err(fault) => print_refusal(rt, fault),
-        Ok(counts) => ask(rt, "clauses", ClauseSolver::new(rules, counts), position),
-    }
-}
-
-fn ask_cache(
-    rt: &impl Print,
-    rules: &[LiteralSet],
-    variables: usize,
-    position: &Position,
-) -> io::Result<()> {
-    match VariableCounts::new(variables, position.contacts) {
-        Err(fault) => print_refusal(rt, fault),
-        Ok(counts) => {
-            let below = ClauseSolver::new(rules, counts);
-            ask(rt, "cache", WitnessCache::new(below), position)
-        }
-    }
+fn print_refused(rt: &impl Print, fault: SheetFault) -> io::Result<()> {
+    let refusal = Refusal::from(fault).brief();
+    print!(rt; " {refusal}")
 }
 
 fn run_position(rt: &impl Print, position: &Position) -> io::Result<()> {
     let mut store = [LiteralSet::empty(); 4];
-    match load(position.text, position.contacts, &mut store) {
-        Err(fault) => print_refusal(rt, fault),
-        Ok(size) => {
-            let count = size.count;
-            let rules = &store[0..count];
-            ask_clauses(rt, rules, size.vars, position)?;
-            ask_cache(rt, rules, size.vars, position)
-        }
-    }
+    let size = match load(position.text, position.contacts, &mut store) {
+        Ok(size) => size,
+        Err(fault) => return print_refused(rt, fault),
+    };
+    let counts = match VariableCounts::new(size.vars, position.contacts) {
+        Ok(counts) => counts,
+        Err(fault) => return print_refused(rt, fault),
+    };
+    let count = size.count;
+    let rules = &store[0..count];
+    let below = ClauseSolver::new(rules, counts);
+    ask(rt, "clauses", ClauseSolver::new(rules, counts), position)?;
+    ask(rt, "cache", WitnessCache::new(below), position)
 }
 
 pub fn run(rt: &impl Print) -> io::Result<()> {

@@ -10,7 +10,6 @@ give_back-requires g c =
     let a = c.in_ok-own.ensures in
     let q = sheet_meaning v c.assume.new.self in
     record {
-      in_order = a.in_order;
       held = ticket_good (sheet_meaning v c.args.sheet.now) (pos 1) [] q q c.in_ok-own.own a.answer a.held refl;
     }
 
@@ -23,7 +22,6 @@ give_back-requires-in-Ok g c =
     let after = sheet_meaning g.T.Solver c.assume-2.new.self in
     let same : c.in_ok-own.own ≡ c.in-Ok.theirs = same_ticket p q _ _ _ _ c.requires.same_label c.requires.same_count a.answer b.answer in
     record {
-      in_order = b.in_order;
       held = ap (λ t. is_some (held_at after t)) same ∙ ticket_good q (pos 1) [] after after c.in-Ok.theirs b.answer b.held refl;
     }
 
@@ -36,6 +34,5 @@ give_back-requires-in-Ok-2 g c =
     let after = sheet_meaning g.S.Solver c.assume.new.self in
     let same : c.in_ok-own.own ≡ c.in-Ok.theirs = same_ticket p q _ _ _ _ c.requires.same_label c.requires.same_count a.answer b.answer in
     record {
-      in_order = a.in_order;
       held = ap (λ t. is_some (held_at after t)) (sym same) ∙ ticket_good p (pos 1) [] after after c.in_ok-own.own a.answer a.held refl;
     }

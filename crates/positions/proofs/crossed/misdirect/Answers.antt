@@ -11,6 +11,5 @@ give_back-requires g c =
     let q = sheet_meaning v c.assume.new.self in
     let good : is_some (held_at q c.in_ok-ticket.ticket) ≡ true = ticket_good (sheet_meaning v c.args.sheet.now) (pos 1) [] q q c.in_ok-ticket.ticket a.answer a.held refl in
     record {
-      in_order = a.in_order;
       held = ap (λ t. is_some (held_at q t)) (handed_back _ c.in_ok-ticket.ticket c.in-Err.refused c.in-Err.ensures.answer) ∙ good;
     }

@@ -1,5 +1,0 @@
-use Rattle.sheets.specs.Sheets.{InOrder}
-use Rattle.positions.proofs.limits.add_rules.Given as goal
-
-abbrev pub invariant-loop : goal.invariant-loop
-invariant-loop g l = InOrder g.S.Solver l.sheet
