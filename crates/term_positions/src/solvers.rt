@@ -1,12 +1,13 @@
 // One question to TERMS, put to sheets over clause solvers, over witness caches, over lists of settings and over two kinds at once.
 use clauses::ClauseSolver;
 use clauses::counts::VariableCounts;
-use enumerated::{ContactCount, ListSolver};
-use faults::SheetFault;
-use literals::LiteralSet;
+use enumerated::ListSolver;
+use faults::{Refusal, SheetFault};
+use literals::{LiteralSet, Spaced};
 use settings::{Setting, Term};
 use sheets::Sheet;
-use std::io;
+use solver::{ContactCount, Solver};
+use std::{fmt, io};
 use tables::table::Table;
 use terms::terms;
 use witnesses::WitnessCache;
@@ -20,41 +21,15 @@ pub struct Question {
     pub due: &'static str,
 }
 
-fn clause_terms(
-    question: &Question,
-    make: &[LiteralSet],
-    brk: &[LiteralSet],
+// TERMS over new sheets of two solvers, of whatever kinds.
+fn terms_of<M: Solver + Drop, B: Solver + Drop>(
+    make: M,
+    brk: B,
     out: &mut [Term],
 ) -> Result<usize, SheetFault> {
-    let make_counts = VariableCounts::new(question.make_contacts, question.make_contacts)?;
-    let break_counts = VariableCounts::new(question.break_contacts, question.break_contacts)?;
-    let mut make_sheet = Sheet::open(ClauseSolver::new(make, make_counts), 1);
-    let mut break_sheet = Sheet::open(ClauseSolver::new(brk, break_counts), 2);
-    terms(&mut make_sheet, &mut break_sheet, out)
-}
-
-fn cached_terms(
-    question: &Question,
-    make: &[LiteralSet],
-    brk: &[LiteralSet],
-    out: &mut [Term],
-) -> Result<usize, SheetFault> {
-    let make_counts = VariableCounts::new(question.make_contacts, question.make_contacts)?;
-    let break_counts = VariableCounts::new(question.break_contacts, question.break_contacts)?;
-    let make_cache = WitnessCache::new(ClauseSolver::new(make, make_counts));
-    let break_cache = WitnessCache::new(ClauseSolver::new(brk, break_counts));
-    let mut make_sheet = Sheet::open(make_cache, 1);
-    let mut break_sheet = Sheet::open(break_cache, 2);
-    terms(&mut make_sheet, &mut break_sheet, out)
-}
-
-fn meets_all(setting: Setting, contacts: usize, rules: &[LiteralSet]) -> bool {
-    for rule in rules {
-        if !setting.meets_set(contacts, *rule) {
-            return false;
-        }
-    }
-    true
+    let mut make = Sheet::open(make, 1);
+    let mut brk = Sheet::open(brk, 2);
+    terms(&mut make, &mut brk, out)
 }
 
 // The settings of at most eight contacts that meet every rule.
@@ -62,91 +37,80 @@ fn allowed(contacts: usize, rules: &[LiteralSet]) -> Table<Setting, 256> {
     let mut settings = Table::new(Setting { closed: 0 });
     for closed in 0..1 << contacts.min(8) {
         let setting = Setting { closed };
-        if meets_all(setting, contacts, rules) {
+        if rules.iter().all(|rule| setting.meets_set(contacts, *rule)) {
             let _ = settings.push(setting);
         }
     }
     settings
 }
 
-fn list_terms(
-    question: &Question,
-    make: &[LiteralSet],
-    brk: &[LiteralSet],
-    out: &mut [Term],
-) -> Result<usize, SheetFault> {
-    let make_count = ContactCount::new(question.make_contacts)?;
-    let break_count = ContactCount::new(question.break_contacts)?;
-    let make_allowed = allowed(question.make_contacts, make);
-    let break_allowed = allowed(question.break_contacts, brk);
-    let mut make_sheet = Sheet::open(ListSolver::new(make_allowed.as_slice(), make_count), 1);
-    let mut break_sheet = Sheet::open(ListSolver::new(break_allowed.as_slice(), break_count), 2);
-    terms(&mut make_sheet, &mut break_sheet, out)
-}
-
-// A witness cache over a list of settings, and a clause solver.
-fn mixed_terms(
-    question: &Question,
-    make: &[LiteralSet],
-    brk: &[LiteralSet],
-    out: &mut [Term],
-) -> Result<usize, SheetFault> {
-    let make_count = ContactCount::new(question.make_contacts)?;
-    let break_counts = VariableCounts::new(question.break_contacts, question.break_contacts)?;
-    let make_allowed = allowed(question.make_contacts, make);
-    let make_cache = WitnessCache::new(ListSolver::new(make_allowed.as_slice(), make_count));
-    let mut make_sheet = Sheet::open(make_cache, 1);
-    let mut break_sheet = Sheet::open(ClauseSolver::new(brk, break_counts), 2);
-    terms(&mut make_sheet, &mut break_sheet, out)
-}
-
-fn print_term(rt: &impl Print, contacts: usize, term: Term) -> io::Result<()> {
-    let literals = term.literals(contacts);
-    for literal in literals.as_slice() {
-        print!(rt; " {literal}")?;
-    }
-    print!(rt; ";")
-}
-
 // The terms at the buffer's front, or how many there are when they are many, or the refusal.
-fn print_answer(
-    rt: &impl Print,
-    contacts: usize,
-    out: &[Term],
+#[derive(Clone, Copy)]
+struct Written<'a> {
     answer: Result<usize, SheetFault>,
-) -> io::Result<()> {
-    match answer {
-        Err(fault) => {
-            let refusal = fault.refusal();
-            let number = refusal.number;
-            let place = refusal.place;
-            print!(rt; " refused {number} {place}")
-        }
-        Ok(0) => print!(rt; " none"),
-        Ok(count) => {
-            if count > 8 {
-                return print!(rt; " {count} terms");
+    contacts: usize,
+    buffer: &'a [Term],
+}
+
+impl fmt::Display for Written<'_> {
+    fn fmt<W: fmt::Write>(&self, f: &mut fmt::Formatter<W>) -> fmt::Result {
+        match self.answer {
+            Ok(0) => write!(f, " none"),
+            Ok(count) if count > 8 => write!(f, " {count} terms"),
+            Ok(count) => {
+                for term in self.buffer.iter().take(count) {
+                    let literals = term.literals(self.contacts);
+                    let spaced = Spaced {
+                        literals: literals.as_slice(),
+                    };
+                    write!(f, "{spaced};")?;
+                }
+                Ok(())
             }
-            for term in out.iter().take(count) {
-                print_term(rt, contacts, *term)?;
+            Err(fault) => {
+                let refusal = Refusal::from(fault).brief();
+                write!(f, " {refusal}")
             }
-            Ok(())
         }
     }
 }
 
+// What came and what is due.
 fn report(
     rt: &impl Print,
     question: &Question,
     kind: &str,
-    out: &[Term],
     answer: Result<usize, SheetFault>,
+    buffer: &[Term],
 ) -> io::Result<()> {
     let name = question.name;
-    print!(rt; "{name}, {kind}:")?;
-    print_answer(rt, question.make_contacts, out, answer)?;
+    let written = Written {
+        answer,
+        contacts: question.make_contacts,
+        buffer,
+    };
     let due = question.due;
-    println!(rt; " (due {due})")
+    println!(rt; "{name}, {kind}:{written} (due {due})")
+}
+
+// How many contacts the two lists of rules have, as each kind of solver is made of it.
+#[derive(Clone, Copy)]
+struct Counts {
+    make: ContactCount,
+    brk: ContactCount,
+    make_counts: VariableCounts,
+    break_counts: VariableCounts,
+}
+
+impl Counts {
+    fn of(question: &Question) -> Result<Self, SheetFault> {
+        Ok(Counts {
+            make: ContactCount::new(question.make_contacts)?,
+            brk: ContactCount::new(question.break_contacts)?,
+            make_counts: VariableCounts::new(question.make_contacts, question.make_contacts)?,
+            break_counts: VariableCounts::new(question.break_contacts, question.break_contacts)?,
+        })
+    }
 }
 
 pub fn ask_all(
@@ -155,16 +119,41 @@ pub fn ask_all(
     make: &[LiteralSet],
     brk: &[LiteralSet],
 ) -> io::Result<()> {
-    let mut out = [Term {
+    let counts = match Counts::of(question) {
+        Ok(counts) => counts,
+        Err(fault) => {
+            let refusal = Refusal::from(fault).brief();
+            return println!(rt; "{refusal}");
+        }
+    };
+    let make_settings = allowed(question.make_contacts, make);
+    let break_settings = allowed(question.break_contacts, brk);
+    let mut buffer = [Term {
         closed: 0,
         opened: 0,
     }; 64];
-    let answer = clause_terms(question, make, brk, &mut out);
-    report(rt, question, "clauses", &out, answer)?;
-    let answer = cached_terms(question, make, brk, &mut out);
-    report(rt, question, "caches", &out, answer)?;
-    let answer = list_terms(question, make, brk, &mut out);
-    report(rt, question, "lists", &out, answer)?;
-    let answer = mixed_terms(question, make, brk, &mut out);
-    report(rt, question, "cached list and clauses", &out, answer)
+    let answer = terms_of(
+        ClauseSolver::new(make, counts.make_counts),
+        ClauseSolver::new(brk, counts.break_counts),
+        &mut buffer,
+    );
+    report(rt, question, "clauses", answer, &buffer)?;
+    let answer = terms_of(
+        WitnessCache::new(ClauseSolver::new(make, counts.make_counts)),
+        WitnessCache::new(ClauseSolver::new(brk, counts.break_counts)),
+        &mut buffer,
+    );
+    report(rt, question, "caches", answer, &buffer)?;
+    let answer = terms_of(
+        ListSolver::new(make_settings.as_slice(), counts.make),
+        ListSolver::new(break_settings.as_slice(), counts.brk),
+        &mut buffer,
+    );
+    report(rt, question, "lists", answer, &buffer)?;
+    let answer = terms_of(
+        WitnessCache::new(ListSolver::new(make_settings.as_slice(), counts.make)),
+        ClauseSolver::new(brk, counts.break_counts),
+        &mut buffer,
+    );
+    report(rt, question, "cached list and clauses", answer, &buffer)
 }
