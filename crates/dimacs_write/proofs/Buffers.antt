@@ -48,4 +48,5 @@ two_digits n h = length-decimal-le 2 n (omega arith) (omega arith) (omega arith)
 pub few_digits : (n : ℕ) → n ≤ 4096 → length (decimal n) ≤ 4
 few_digits n h = length-decimal-le 4 n (omega arith) (omega arith) (omega arith)
 
+-- what putting one thing behind another goes by
 pub ruleset puts = (put_append, put_nothing, two_digits, few_digits)

@@ -44,4 +44,5 @@ all_one_line text e some =
     past : length text ≤ position_or_len (λ b. b == 10) text
     past = long (ltb (position_or_len (λ b. b == 10) text) (length text)) refl e
 
+-- what the first line is
 pub ruleset cuts = (cut_at, all_one_line, no_lines)
