@@ -30,7 +30,7 @@ feed_next ts a e =
 -- the number of gates makes up all the variables with the inputs
 summed : (M I p n m : ℕ) (b : Bool) → eqb (I + n) M ≡ b → ◌≡◌ {A = Result ℕ TextFault} (cond b (Ok n) (Err (Limit p))) (Ok m) → (n ≡ m) × (I + n ≡ M)
 summed M I p n m true h e = (ap (λ (y : Result ℕ TextFault). from_ok n y) e, eqb-true (I + n) M h)
-summed M I p n m false h e = absurd (let z : ◌≡◌ {A = ℕ} 0 1 = cc in omega arith)
+summed M I p n m false h e = cc
 
 count_word : (M I : ℕ) (t : Lexeme) (n : ℕ) → count_due M I t ≡ Ok n → (p : ℕ) × (t ≡ word (decimal n) p) × (n ≤ 2048) × (I + n ≡ M)
 count_word M I (word w p) n e =
@@ -38,8 +38,8 @@ count_word M I (word w p) n e =
     let s = summed M I p r.0 n (eqb (I + r.0) M) refl r.2 in
     let g = number_is 0 2048 (word w p) n (omega arith) (r.1 ∙ ap Ok s.0) in
     (g.0, g.1, g.3, ap (λ k. I + k) (sym s.0) ∙ s.1)
-count_word M I (line_end p) n e = absurd (let z : ◌≡◌ {A = ℕ} 0 1 = cc in omega arith)
-count_word M I (end p) n e = absurd (let z : ◌≡◌ {A = ℕ} 0 1 = cc in omega arith)
+count_word M I (line_end p) n e = cc
+count_word M I (end p) n e = cc
 
 abbrev HeadingLineRead : List Lexeme → (ℕ × ℕ) × List Lexeme → Type 0
 HeadingLineRead ts a = (q : ℕ) × Words (heading_words a.0.0 a.0.1) ts (line_end q ∷ a.1) × (1 ≤ a.0.0) × (a.0.0 ≤ 32) × (a.0.1 ≤ 2048)

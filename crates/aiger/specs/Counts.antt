@@ -9,6 +9,7 @@ use Rattle.aiger.specs.declared.Gate.{Gate}
 use Rattle.aiger.specs.Aag.{gate_line}
 use Rattle.aiger.specs.Reader.{gates_from}
 
+-- as many gates, whatever the first of them defines
 pub gates_as_many : (n due b : ℕ) (ts : List Lexeme) (gs : List Gate) → gates_from n due b ts ≡ Ok gs → length gs ≡ n
 gates_as_many zero due b ts gs e = let q = first_then (ended b ts) (λ _. Ok []) gs e in ap (λ (r : Result (List Gate) TextFault). length (from_ok [] r)) (sym q.2)
 gates_as_many (suc n) due b ts gs e =

@@ -7,7 +7,7 @@ ghost use Rattle.texts.specs.Lexemes.{ahead, lexemes_from};
 
 use super::{Gates, Opening};
 use faults::TextFault;
-use texts::{Token, Words, limited};
+use texts::{Words, limited};
 
 // The number of gates, which makes up all the variables together with the inputs.
 fn gate_count(words: &mut Words, all: u16, inputs: u16) -> Result<u16, TextFault>
@@ -15,16 +15,12 @@ fn gate_count(words: &mut Words, all: u16, inputs: u16) -> Result<u16, TextFault
     ensures reads { one (count_due all inputs) (ahead words.old) ≡ leaving result (ahead words.new) }
     ensures bound { IfOk result (λ n. n ≤ 2048) }
 {
-    match words.next() {
-        Token::Word(word, at) => {
-            let count = limited(word, at, 0, 2048)?;
-            if inputs + count == all {
-                Ok(count)
-            } else {
-                Err(TextFault::Limit(at))
-            }
-        }
-        Token::LineEnd(at) | Token::End(at) => Err(TextFault::Shape(at)),
+    let (word, at) = words.word()?;
+    let count = limited(word, at, 0, 2048)?;
+    if inputs + count == all {
+        Ok(count)
+    } else {
+        Err(TextFault::Limit(at))
     }
 }
 
@@ -64,6 +60,7 @@ fn input_lines(words: &mut Words, inputs: u16) -> Result<(), TextFault>
 }
 
 impl<'a> Opening<'a> {
+    // A text of which nothing is read yet.
     pub fn new(text: &'a [u8]) -> Self
         ensures unread { ahead result.words ≡ lexemes_from 0 text.now }
     {

@@ -30,7 +30,7 @@ module _ (V : ℕ) (v : V < 2 ^ 64) where
       given (LineRead (t ∷ ts)) (l ∷ r.0.0, r.0.1) a r.2 ((q.2, more.0), (q.0, ts, ap (λ x. x ∷ ts) q.1, more.1))
 
   line_is : (ts : List Lexeme) (a : List ℤ × List Lexeme) → literals V ts ≡ Ok a → LineRead ts a
-  line_is [] a e = absurd (let z : ◌≡◌ {A = ℕ} 0 1 = cc in omega arith)
+  line_is [] a e = cc
   line_is (t ∷ ts) a e =
       let q = first_then (literal V t) _ a e in
       line_by t ts q.0 a (line_is ts) q.1 q.2
@@ -85,20 +85,20 @@ opened_by (word w p) ts true a ih h e = λ n.
     let r = ih e in
     let more = r.4 (r.1 + 1) in
     ((w ∷ r.0) ∷ more.0, (eqb-true _ 99 h, more.1), more.2, more.3, (r.1, r.2, (p, ts, refl, r.3), more.4))
-opened_by (line_end p) ts true a ih h e = absurd (let z : ◌≡◌ {A = ℕ} 0 1 = cc in omega arith)
-opened_by (end p) ts true a ih h e = absurd (let z : ◌≡◌ {A = ℕ} 0 1 = cc in omega arith)
+opened_by (line_end p) ts true a ih h e = cc
+opened_by (end p) ts true a ih h e = cc
 opened_by t ts false a ih h e = λ n.
     let j = judged (exactly (codes "p")) (t ∷ ts) a e in
     let g = exactly_is (codes "p") j.0 a.0 j.2 in
     ([], tt, n, g.0, (refl, j.1 ∙ ap (λ x. x ∷ a.1) g.1))
 
 opened : (c : Bool) (ts : List Lexeme) (a : Unit {0} × List Lexeme) → opening c ts ≡ Ok a → Opened c ts a.1
-opened false [] a e = absurd (let z : ◌≡◌ {A = ℕ} 0 1 = cc in omega arith)
-opened true [] a e = absurd (let z : ◌≡◌ {A = ℕ} 0 1 = cc in omega arith)
+opened false [] a e = cc
+opened true [] a e = cc
 opened false (t ∷ ts) a e = opened_by t ts (comment t) a (opened true ts a) refl e
 opened true (word w p ∷ ts) a e = let r = opened true ts a e in (w ∷ r.0, r.1, r.2, (p, ts, refl, r.3), r.4)
 opened true (line_end p ∷ ts) a e = ([], p, ts, refl, opened false ts a e)
-opened true (end p ∷ ts) a e = absurd (let z : ◌≡◌ {A = ℕ} 0 1 = cc in omega arith)
+opened true (end p ∷ ts) a e = cc
 
 abbrev HeadingRead : List Lexeme → Heading × List Lexeme → Type 0
 HeadingRead ts a =

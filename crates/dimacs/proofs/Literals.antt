@@ -32,7 +32,7 @@ abbrev Spells : ℕ → List ℕ → Option ℤ → Type 0
 Spells V w o = (w ≡ spelled o) × Known V o
 
 negative : (V : ℕ) (w : List ℕ) (p n : ℕ) (o : Option ℤ) → V < 2 ^ 64 → get_or w 0 0 ≡ 45 → limited 0 (greatest V) (drop 1 w) p ≡ Ok n → minus p n ≡ Ok o → Spells V w o
-negative V w p zero o v h e m = absurd (let z : ◌≡◌ {A = ℕ} 0 1 = cc in omega arith)
+negative V w p zero o v h e m = cc
 negative V w p (suc k) o v h e m =
     let q = limited_is 0 (greatest V) (drop 1 w) p (suc k) e in
     let same = q.1 in
@@ -64,8 +64,8 @@ word_is V w p o false v h e =
 -- a lexeme that was read is the word that writes what was read
 pub literal_is : (V : ℕ) (t : Lexeme) (o : Option ℤ) → V < 2 ^ 64 → literal V t ≡ Ok o → (p : ℕ) × (t ≡ word (spelled o) p) × Known V o
 literal_is V (word w p) o v e = let q = word_is V w p o (eqb (get_or w 0 0) 45) v refl e in (p, ap (λ x. word x p) q.0, q.1)
-literal_is V (line_end p) o v e = absurd (let z : ◌≡◌ {A = ℕ} 0 1 = cc in omega arith)
-literal_is V (end p) o v e = absurd (let z : ◌≡◌ {A = ℕ} 0 1 = cc in omega arith)
+literal_is V (line_end p) o v e = cc
+literal_is V (end p) o v e = cc
 
 -- the word that writes a literal gives it
 pub literal_ok : (V : ℕ) (l : ℤ) (p : ℕ) → V ≤ 64 → Named V l → literal V (word (signed_decimal l) p) ≡ Ok (Some l)

@@ -19,6 +19,7 @@ rules_as_many V (suc n) b ts ls e =
     let s = first_then (body V n q.0.0.1 q.0.1) (λ rs. Ok (q.0.0.0 ∷ rs)) ls q.2 in
     ap (λ (r : Result (List (List ℤ)) TextFault). length (from_ok [] r)) (sym s.2) ∙ ap suc (rules_as_many V n q.0.0.1 q.0.1 s.0 s.1)
 
+-- and as many sets
 pub sets_as_many : (V n b : ℕ) (ts : List Lexeme) (rs : List LiteralSet) → set_body V n b ts ≡ Ok rs → length rs ≡ n
 sets_as_many V n b ts rs e =
     let q = first_then (body V n b ts) (λ ls. Ok (map set_of ls)) rs e in

@@ -5,7 +5,7 @@ ghost use Rattle.texts.specs.Due.{one, leaving};
 ghost use Rattle.texts.specs.Lexemes.{ahead};
 
 use faults::TextFault;
-use texts::{Token, Words, limited};
+use texts::{Words, limited};
 
 // A literal is a signed 8-bit number.
 const GREATEST: u16 = 127;
@@ -37,8 +37,6 @@ fn signed(word: &[u8], place: usize, vars: u16) -> Result<Option<i8>, TextFault>
 pub fn literal(words: &mut Words, vars: u16) -> Result<Option<i8>, TextFault>
     ensures reads { one (literal vars) (ahead words.old) ≡ leaving result (ahead words.new) }
 {
-    match words.next() {
-        Token::Word(word, at) => signed(word, at, vars),
-        Token::LineEnd(at) | Token::End(at) => Err(TextFault::Shape(at)),
-    }
+    let (word, at) = words.word()?;
+    signed(word, at, vars)
 }

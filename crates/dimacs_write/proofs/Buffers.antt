@@ -1,5 +1,5 @@
 -- Bytes put into a buffer.
-use Rattle.std.proofs.Common.{◌≡◌, ℕ, suc, ◌+◌, ◌<◌, ◌≤◌, Bool, true, false, cond, List, [], ◌∷◌, ◌++◌, length, get_or, drop, set, ℤ, decimal, sym, refl, ap, ap₂, subst, ◌∙◌, append_assoc, add-zero, add-one, arith, length-append, drop-cons}
+use Rattle.std.proofs.Common.{◌≡◌, ℕ, suc, ◌+◌, ◌≤◌, Bool, true, false, cond, List, [], ◌∷◌, ◌++◌, length, set, ℤ, decimal, sym, refl, ap, ap₂, subst, ◌∙◌, append_assoc, add-zero, arith, length-append}
 use Rattle.std.proofs.lemmas.Fmt.{length-decimal-le}
 use Rattle.literals.specs.declared.LiteralSet.{LiteralSet}
 use Rattle.literals.specs.Literals.{has, when, listed_from}
@@ -45,10 +45,8 @@ rule_from m n k k' s h e =
 pub two_digits : (n : ℕ) → n ≤ 64 → length (decimal n) ≤ 2
 two_digits n h = length-decimal-le 2 n (omega arith) (omega arith) (omega arith)
 
-pub from_place : {A : Type 0} (xs : List A) (i : ℕ) (d : A) → i < length xs → drop i xs ≡ get_or xs i d ∷ drop (i + 1) xs
-from_place xs i d h = rw (add-one, drop-cons xs i d)
-
 pub few_digits : (n : ℕ) → n ≤ 4096 → length (decimal n) ≤ 4
 few_digits n h = length-decimal-le 4 n (omega arith) (omega arith) (omega arith)
 
+-- what putting one thing behind another goes by
 pub ruleset puts = (put_append, put_nothing, two_digits, few_digits)

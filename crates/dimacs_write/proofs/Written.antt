@@ -41,7 +41,7 @@ granted true m n e = (refl, ap number e)
     number : Result ℕ SheetFault → ℕ
     number (Ok x) = x
     number (Err x) = 0
-granted false m n e = absurd (let z : ◌≡◌ {A = ℕ} 0 1 = cc in omega arith)
+granted false m n e = cc
 
 module _ (V : ℕ) (sets : List LiteralSet) (s : List ℕ) where
   pub buffer : (r : Result ℕ SheetFault) (out : List ℕ) → r ≡ written V sets (length s) → out ≡ written_over r (set_text V sets) s → out ≡ buffer_after r (set_text V sets) s

@@ -38,10 +38,11 @@ all_one_line text e some =
     ∙ ap₂ (λ line rest. line ∷ lines_of rest) (take_all (length text) text (omega arith)) (drop_of_length-le text over)
   where
     long : (b : Bool) → ltb (position_or_len (λ b. b == 10) text) (length text) ≡ b → cond b (Some (position_or_len (λ b. b == 10) text)) None ≡ None → length text ≤ position_or_len (λ b. b == 10) text
-    long true h e = absurd (let z : ◌≡◌ {A = ℕ} 0 1 = cc in omega arith)
+    long true h e = cc
     long false h e = ltb-false _ _ h
 
     past : length text ≤ position_or_len (λ b. b == 10) text
     past = long (ltb (position_or_len (λ b. b == 10) text) (length text)) refl e
 
+-- what the first line is
 pub ruleset cuts = (cut_at, all_one_line, no_lines)

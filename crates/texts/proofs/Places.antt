@@ -1,5 +1,5 @@
 -- A reading that fails does so at one of the lexemes that it was given.
-use Rattle.std.proofs.Common.{◌≡◌, ℕ, ◌+◌, Bool, true, false, cond, ◌&&◌, eqb, leb, List, [], ◌∷◌, Ok, Err, Result, sym, refl, ap, ◌∙◌, inl, inr, arith}
+use Rattle.std.proofs.Common.{◌≡◌, ℕ, ◌+◌, Bool, true, false, cond, ◌&&◌, eqb, leb, List, [], ◌∷◌, Ok, Err, Result, sym, refl, ap, ◌∙◌, inl, inr}
 use Rattle.std.specs.Str.Parse.{digits_value}
 use Rattle.std.specs.Str.{bytes_eq}
 use Rattle.faults.specs.declared.TextFault.{TextFault}
@@ -109,7 +109,7 @@ at_cond {A} p false r f e h g q = sym h ∙ ap fault_place same
 
 pub limited_at : (low high : ℕ) (w : List ℕ) (p : ℕ) (e : TextFault) → limited low high w p ≡ Err e → p ≡ fault_place e
 limited_at low high w p e =
-    at_cond p (numeral w) _ (Shape p) e refl (at_cond p (leb low (digits_value 10 w) && leb (digits_value 10 w) high) (Ok (digits_value 10 w)) (Limit p) e refl (λ q. absurd (let z : ◌≡◌ {A = ℕ} 0 1 = cc in omega arith)))
+    at_cond p (numeral w) _ (Shape p) e refl (at_cond p (leb low (digits_value 10 w) && leb (digits_value 10 w) high) (Ok (digits_value 10 w)) (Limit p) e refl (λ q. cc))
 
 pub shape_at : {A : Type 0} (p : ℕ) (e : TextFault) → ◌≡◌ {A = Result A TextFault} (Err (Shape p)) (Err e) → p ≡ fault_place e
 shape_at {A} p e q = ap fault_place same
@@ -118,7 +118,7 @@ shape_at {A} p e q = ap fault_place same
     same = cc
 
 pub never : {A : Type 0} (f : TextFault) (a : A) → ◌≡◌ {A = Result A TextFault} (Err f) (Ok a) → ⊥
-never f a q = let z : ◌≡◌ {A = ℕ} 0 1 = cc in omega arith
+never f a q = cc
 
 -- one reading of a word after another
 pub at_then : {A B : Type 0} (p : ℕ) (r : Result A TextFault) (k : A → Result B TextFault) (e : TextFault) → ((x : TextFault) → r ≡ Err x → p ≡ fault_place x) → ((a : A) → k a ≡ Err e → p ≡ fault_place e) → and_then r k ≡ Err e → p ≡ fault_place e
@@ -149,7 +149,7 @@ line_end_judge = record { at = at; no_end = λ p a e. never (Shape p) a e }
   where
     at : (t : Lexeme) (e : TextFault) → line_end_due t ≡ Err e → place t ≡ fault_place e
     at (word w p) e q = shape_at p e q
-    at (line_end p) e q = absurd (let z : ◌≡◌ {A = ℕ} 0 1 = cc in omega arith)
+    at (line_end p) e q = cc
     at (end p) e q = shape_at p e q
 
 -- any judge whose faults stand at the words, and that takes nothing but words

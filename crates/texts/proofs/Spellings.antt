@@ -29,14 +29,14 @@ pub given : {A : Type 0} (P : A → Type 0) (x a : A) → ◌≡◌ {A = Result 
 given {A} P x a e h = subst P (ap (λ (y : Result A TextFault). from_ok x y) e) h
 
 pub ended_is : (b : ℕ) (ts : List Lexeme) (u : Unit {0}) → ended b ts ≡ Ok u → Ends b ts
-ended_is b [] u e = absurd (let z : ◌≡◌ {A = ℕ} 0 1 = cc in omega arith)
-ended_is b (word w p ∷ ts) u e = absurd (let z : ◌≡◌ {A = ℕ} 0 1 = cc in omega arith)
-ended_is b (line_end p ∷ ts) u e = absurd (let z : ◌≡◌ {A = ℕ} 0 1 = cc in omega arith)
+ended_is b [] u e = cc
+ended_is b (word w p ∷ ts) u e = cc
+ended_is b (line_end p ∷ ts) u e = cc
 ended_is b (end p ∷ ts) u e = go (eqb p b) refl e
   where
     go : (t : Bool) → eqb p b ≡ t → ◌≡◌ {A = Result (Unit {0}) TextFault} (cond t (Ok tt) (Err (Shape p))) (Ok u) → p ≡ b
     go true h e = eqb-true p b h
-    go false h e = absurd (let z : ◌≡◌ {A = ℕ} 0 1 = cc in omega arith)
+    go false h e = cc
 
 pub ended_ok : (b : ℕ) (ts : List Lexeme) → Ends b ts → ended b ts ≡ Ok tt
 ended_ok b [] h = absurd h
@@ -49,7 +49,7 @@ pub short_is : (text : List ℕ) (u : Unit {0}) → length_due text ≡ Ok u →
 short_is text u e = go (ltb 60000 (length text)) refl e
   where
     go : (b : Bool) → ltb 60000 (length text) ≡ b → ◌≡◌ {A = Result (Unit {0}) TextFault} (cond b (Err (Limit 60000)) (Ok tt)) (Ok u) → length text ≤ 60000
-    go true h e = absurd (let z : ◌≡◌ {A = ℕ} 0 1 = cc in omega arith)
+    go true h e = cc
     go false h e = ltb-false 60000 (length text) h
 
 pub short_ok : (text : List ℕ) → length text ≤ 60000 → length_due text ≡ Ok tt

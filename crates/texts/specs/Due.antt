@@ -30,6 +30,12 @@ one f (t ∷ ts) = leaving (f t) ts
 abbrev pub limited : ℕ → ℕ → List ℕ → ℕ → Result ℕ TextFault
 limited low high w p = cond (numeral w) (cond (nat_le low (digits_value 10 w) && nat_le (digits_value 10 w) high) (Ok (digits_value 10 w)) (Err (Limit p))) (Err (Shape p))
 
+-- a word, and its place
+abbrev pub word_due : Lexeme → Result (List ℕ × ℕ) TextFault
+word_due (word w p) = Ok (w, p)
+word_due (line_end p) = Err (Shape p)
+word_due (end p) = Err (Shape p)
+
 -- a number from low to high
 abbrev pub number : ℕ → ℕ → Lexeme → Result ℕ TextFault
 number low high (word w p) = limited low high w p

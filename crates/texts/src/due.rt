@@ -1,6 +1,6 @@
 // What is due next: one token, judged.
-ghost use Rattle.std.specs.Prelude.{◌≡◌, ◌≤◌, IfOk};
-ghost use Rattle.texts.specs.Due.{length_due, limited, number, line_end_due, exact, exactly, ended, one, leaving};
+ghost use Rattle.std.specs.Prelude.{◌≡◌, ◌≤◌, IfOk, Ok};
+ghost use Rattle.texts.specs.Due.{length_due, limited, word_due, number, line_end_due, exact, exactly, ended, and_then, one, leaving};
 ghost use Rattle.texts.specs.Lexemes.{ahead};
 
 use super::{Token, Words};
@@ -44,15 +44,23 @@ pub fn exact(word: &[u8], place: usize, due: &[u8]) -> Result<(), TextFault>
 }
 
 impl<'a> Words<'a> {
+    // A word, and its place.
+    pub fn word(&mut self) -> Result<(&'a [u8], usize), TextFault>
+        ensures reads { one word_due (ahead self.old) ≡ leaving (and_then result (λ w. Ok (w.0.now, w.1))) (ahead self.new) }
+    {
+        match self.next() {
+            Token::Word(word, at) => Ok((word, at)),
+            Token::LineEnd(at) | Token::End(at) => Err(TextFault::Shape(at)),
+        }
+    }
+
     // A number from `low` to `high`.
     pub fn number(&mut self, low: u16, high: u16) -> Result<u16, TextFault>
         ensures reads { one (number low high) (ahead self.old) ≡ leaving result (ahead self.new) }
         ensures bound { IfOk result (λ n. n ≤ high) }
     {
-        match self.next() {
-            Token::Word(word, at) => limited(word, at, low, high),
-            Token::LineEnd(at) | Token::End(at) => Err(TextFault::Shape(at)),
-        }
+        let (word, at) = self.word()?;
+        limited(word, at, low, high)
     }
 
     // The end of a line; answers the place behind it.
@@ -69,10 +77,8 @@ impl<'a> Words<'a> {
     pub fn exactly(&mut self, due: &[u8]) -> Result<(), TextFault>
         ensures reads { one (exactly due.now) (ahead self.old) ≡ leaving result (ahead self.new) }
     {
-        match self.next() {
-            Token::Word(word, at) => exact(word, at, due),
-            Token::LineEnd(at) | Token::End(at) => Err(TextFault::Shape(at)),
-        }
+        let (word, at) = self.word()?;
+        exact(word, at, due)
     }
 
     // The end of the text, right at `behind`: not even spaces stand before it.

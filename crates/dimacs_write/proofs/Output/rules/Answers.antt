@@ -1,7 +1,8 @@
 use Rattle.std.proofs.Common.{◌+◌, ◌≤◌, length, get_or, drop, ap, arith, drop_of_length-le}
+use Rattle.std.proofs.lemmas.List.{at_drop_more}
 use Rattle.literals.specs.Literals.{no_literals, listed}
 use Rattle.dimacs_write.specs.Texts.{rule_text, set_texts}
-use Rattle.dimacs_write.proofs.Buffers.{put_both, put_none, from_place}
+use Rattle.dimacs_write.proofs.Buffers.{put_both, put_none}
 use Rattle.dimacs_write.proofs.Output.rules.Goals as goal
 
 pub loop-set-preserved : goal.loop-set-preserved
@@ -10,7 +11,7 @@ loop-set-preserved c =
     let rs = c.args.rules.now in
     let i = c.loop-set.set-index in
     let told = c.rule.ensures in (
-      λ last rest. c.loop-set.invariant.0 last (put_both c.loop-set.self c.rule.new.self last (rule_text (listed V (get_or rs i no_literals))) (set_texts V (drop (i + 1) rs)) (set_texts V (drop i rs)) (ap (set_texts V) (from_place rs i no_literals c.loop-set-test.true)) told.put rest),
+      λ last rest. c.loop-set.invariant.0 last (put_both c.loop-set.self c.rule.new.self last (rule_text (listed V (get_or rs i no_literals))) (set_texts V (drop (i + 1) rs)) (set_texts V (drop i rs)) (at_drop_more (set_texts V) rs i no_literals c.loop-set-test.true) told.put rest),
       omega (arith, c.loop-set.invariant.1, told.most),
     )
 
