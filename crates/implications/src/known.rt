@@ -46,6 +46,7 @@ fn nothing_known() -> [Option<bool>; 2081]
 }
 
 // What is known at first: variable 0 is false, and the inputs are as the assignment says.
+// No iterator form is plainer: each index names an input of the assignment too.
 fn first_values(circuit: Circuit<'_>, assignment: Assignment) -> [Option<bool>; 2081]
     ensures length { length result ≡ 2081 }
     ensures right { (V : ℕ → Bool) → V 0 ≡ false → ((k : ℕ) → k < circuit.entry.inputs → Agree (assigned assignment k) (V (k + 1))) → Sound result V }
@@ -199,7 +200,7 @@ impl Implied {
         Ok(())
     }
 
-    // The assignment with what is known of the inputs.
+    // The assignment with what is known of the inputs. Each index names an input of the assignment too.
     pub fn narrowed(&self, circuit: Circuit<'_>, assignment: Assignment) -> Assignment
         ensures narrowed { result ≡ narrowed circuit.entry.inputs self.now.values assignment }
     {

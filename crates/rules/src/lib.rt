@@ -158,7 +158,7 @@ impl Shortest {
         shortest
     }
 
-    // Counts in the variables of a mask.
+    // Counts in the variables of a mask. No iterator goes over the bits of a number.
     fn count(&mut self, mask: u64) {
         let mut left = mask;
         while left != 0 {
@@ -178,7 +178,7 @@ impl Shortest {
         }
     }
 
-    // The variable that occurs most; of several such, the first.
+    // The variable that occurs most; of several such, the first, where `max_by_key` would answer the last.
     fn most_frequent(&self) -> u8 {
         let mut best = 0;
         let mut most = 0;

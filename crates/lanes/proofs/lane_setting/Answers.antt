@@ -1,4 +1,5 @@
-use Rattle.std.proofs.Common.{◌+◌, ◌^◌, ◌<◌, false, cond, map, length, get_or, sym, ap, ◌∙◌, subst, ⊎_elim, arith}
+use Rattle.std.specs.List.{range_with_len}
+use Rattle.std.proofs.Common.{◌≡◌, ◌+◌, ◌^◌, ◌<◌, false, cond, map, length, get_or, sym, ap, ◌∙◌, subst, ⊎_elim, arith}
 use Rattle.std.proofs.lemmas.List.FromFn.{fill_by_all}
 use Rattle.std.proofs.lemmas.List.{length-map, get_or-map}
 use Rattle.std.proofs.lemmas.Bool.{cases_eq, eq-eqb, ne_eqb}
@@ -10,7 +11,7 @@ pub loop-index-preserved : goal.loop-index-preserved
 loop-index-preserved c =
     let i = c.loop-index.index in
     let m = c.loop-index.closed in
-    let ws = c.args.inputs.now in
+    let ws = c.as_slice-words.result.now in
     let b = c.has_bit.result in
     let e = c.with_bit-closed.ensures.mask in
     let old = c.loop-index.invariant in (
@@ -25,10 +26,11 @@ loop-index-preserved c =
 
 pub returns : goal.returns
 returns c =
-    let ws = c.args.inputs.now in
+    let ws = c.as_slice-words.result.now in
     let lane = c.args.lane in
     record {
-      setting = sym
+      setting = subst (λ ws. map (λ k. bit c.loop-index.closed k) (range_with_len 0 (length ws)) ≡ map (λ w. bit w lane) ws) c.as_slice-words.ensures.entries
+          (sym
           (fill_by_all (λ k. bit c.loop-index.closed k) (map (λ w. bit w lane) ws) (length ws) false (length-map ws (λ w. bit w lane))
-          (λ k lt. get_or-map (λ w. bit w lane) ws k 0 false lt ∙ sym (c.loop-index.invariant.1 k (omega (arith, c.loop-index-test.false)))));
+          (λ k lt. get_or-map (λ w. bit w lane) ws k 0 false lt ∙ sym (c.loop-index.invariant.1 k (omega (arith, c.loop-index-test.false))))));
     }
