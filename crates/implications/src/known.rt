@@ -69,6 +69,14 @@ fn take(assignment: Assignment, index: u8, value: Option<bool>) -> Assignment
     }
 }
 
+// The variable of the gate of an index.
+fn gate_variable(circuit: Circuit<'_>, index: usize) -> u16
+    requires within { index < length circuit.gates.now }
+    ensures variable { result ≡ circuit.entry.inputs + 1 + index }
+{
+    circuit.inputs as u16 + 1 + index as u16
+}
+
 impl Implied {
     // What is known at first.
     pub(crate) fn at_first(circuit: Circuit<'_>, assignment: Assignment) -> Self
@@ -161,7 +169,7 @@ impl Implied {
         ensures right { (V : ℕ → Bool) → Obeys (circuit.entry.inputs + 1) circuit.entry.gates.now V → Sound self.old.values V → Holds V result self.new.values }
     {
         match circuit.gates.get(index) {
-            Some(gate) => self.step(circuit.inputs as u16 + 1 + index as u16, *gate),
+            Some(gate) => self.step(gate_variable(circuit, index), *gate),
             None => Ok(false),
         }
     }

@@ -140,6 +140,13 @@ fn good_word(
         & (all_met_word(words, rules, false) & all_met_word(words, bars, true))
 }
 
+// Whether a lane is set.
+fn has_lane(word: u64, lane: u8) -> bool
+    ensures set { result ≡ bit word lane }
+{
+    has_bit(word, lane as usize)
+}
+
 // The first lane that is set.
 fn first_lane(word: u64) -> Option<u8>
     ensures first { FirstLane word result }
@@ -147,7 +154,7 @@ fn first_lane(word: u64) -> Option<u8>
     if word == 0 {
         return None;
     }
-    (0..64u8).find(|lane| has_bit(word, *lane as usize))
+    (0..64u8).find(|lane| has_lane(word, *lane))
 }
 
 // A mask with a bit more, if that is set.
@@ -166,7 +173,7 @@ fn lane_setting(inputs: &Table<u64, 32>, lane: u8) -> Assignment
     let words = inputs.as_slice();
     let mut closed = 0;
     for (index, word) in words.iter().enumerate() {
-        closed = with_bit(closed, index, has_bit(*word, lane as usize));
+        closed = with_bit(closed, index, has_lane(*word, lane));
     }
     Assignment { closed, opened: 0 }
 }

@@ -12,14 +12,14 @@ loop-index-preserved c =
     let i = c.loop-index.index in
     let m = c.loop-index.closed in
     let ws = c.as_slice-words.result.now in
-    let b = c.has_bit.result in
+    let b = c.has_lane.result in
     let e = c.with_bit-closed.ensures.mask in
     let old = c.loop-index.invariant in (
       subst (λ m. m < 2 ^ (i + 1)) (sym e) (with_small m i b old.0),
       λ k lt.
           ap (λ m. bit m k) e ∙ bit_with m i k b old.0 lt
           ∙ ⊎_elim
-          (λ same. ap (λ d. cond d b (bit m k)) (eq-eqb k i same) ∙ c.has_bit.ensures.set ∙ ap (λ k. bit (get_or ws k 0) c.args.lane) (sym same))
+          (λ same. ap (λ d. cond d b (bit m k)) (eq-eqb k i same) ∙ c.has_lane.ensures.set ∙ ap (λ k. bit (get_or ws k 0) c.args.lane) (sym same))
           (λ other. ap (λ d. cond d b (bit m k)) (ne_eqb k i other) ∙ old.1 k (omega (arith, other)))
           (cases_eq k i),
     )
