@@ -9,13 +9,10 @@ use implications::Implied;
 use networks::Circuit;
 use search::Assignment;
 
-// Variable 0, up to 32 inputs and up to 2,048 gates.
-const MOST_VARIABLES: usize = 2_081;
-
 // What a gate without a cause asks for.
 const WHOLE: u32 = 65_536;
 
-// How much is asked of each variable.
+// How much is asked of each variable: of variable 0, of up to 32 inputs and of up to 2,048 gates.
 #[derive(Drop)]
 struct Demands {
     asked: [u32; 2081],
@@ -23,35 +20,31 @@ struct Demands {
 
 // Whether nothing is known of a literal.
 fn is_unknown(known: &Implied, literal: u16) -> bool {
-    let variable = (literal / 2) as usize;
-    variable < MOST_VARIABLES && known.values[variable].is_none()
+    matches!(known.values.get((literal / 2) as usize), Some(None))
 }
 
 // Whether a gate is known to be 0 while nothing is known of its sides, so that it has no cause yet.
 fn is_unjustified(known: &Implied, variable: usize, gate: Gate) -> bool {
-    variable < MOST_VARIABLES
-        && known.values[variable] == Some(false)
+    matches!(known.values.get(variable), Some(Some(false)))
         && is_unknown(known, gate.left)
         && is_unknown(known, gate.right)
 }
 
 impl Demands {
+    // Nothing is asked.
     fn none() -> Self {
         Demands { asked: [0; 2081] }
     }
 
+    // How much is asked of a variable.
     fn of(&self, variable: usize) -> u32 {
-        if variable < MOST_VARIABLES {
-            self.asked[variable]
-        } else {
-            0
-        }
+        self.asked.get(variable).copied().unwrap_or(0)
     }
 
+    // Asks more of the variable of a literal.
     fn add(&mut self, literal: u16, share: u32) {
-        let variable = (literal / 2) as usize;
-        if variable < MOST_VARIABLES {
-            self.asked[variable] = self.asked[variable].saturating_add(share);
+        if let Some(asked) = self.asked.get_mut((literal / 2) as usize) {
+            *asked = asked.saturating_add(share);
         }
     }
 

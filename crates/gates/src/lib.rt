@@ -158,7 +158,7 @@ impl<'a> Look for GateSolver<'a> {
     }
 
     fn look(&self, assignment: Assignment) -> Found {
-        let undecided = count_undecided(self.circuit.inputs, assignment);
+        let undecided = count_undecided(self.circuit, assignment);
         if undecided <= AT_ONCE {
             self.try_lanes(assignment)
         } else if undecided <= TRIED_ALL {

@@ -46,6 +46,7 @@ fn nothing_known() -> [Option<bool>; 2081]
 }
 
 // What is known at first: variable 0 is false, and the inputs are as the assignment says.
+// No iterator form is plainer: each index names an input of the assignment too.
 fn first_values(circuit: Circuit<'_>, assignment: Assignment) -> [Option<bool>; 2081]
     ensures length { length result ≡ 2081 }
     ensures right { (V : ℕ → Bool) → V 0 ≡ false → ((k : ℕ) → k < circuit.entry.inputs → Agree (assigned assignment k) (V (k + 1))) → Sound result V }
@@ -66,6 +67,14 @@ fn take(assignment: Assignment, index: u8, value: Option<bool>) -> Assignment
         Some(closed) if !assignment.has_decided(index) => assignment.with(index, closed),
         _ => assignment,
     }
+}
+
+// The variable of the gate of an index.
+fn gate_variable(circuit: Circuit<'_>, index: usize) -> u16
+    requires within { index < length circuit.gates.now }
+    ensures variable { result ≡ circuit.entry.inputs + 1 + index }
+{
+    circuit.inputs as u16 + 1 + index as u16
 }
 
 impl Implied {
@@ -160,7 +169,7 @@ impl Implied {
         ensures right { (V : ℕ → Bool) → Obeys (circuit.entry.inputs + 1) circuit.entry.gates.now V → Sound self.old.values V → Holds V result self.new.values }
     {
         match circuit.gates.get(index) {
-            Some(gate) => self.step(circuit.inputs as u16 + 1 + index as u16, *gate),
+            Some(gate) => self.step(gate_variable(circuit, index), *gate),
             None => Ok(false),
         }
     }
@@ -199,7 +208,7 @@ impl Implied {
         Ok(())
     }
 
-    // The assignment with what is known of the inputs.
+    // The assignment with what is known of the inputs. Each index names an input of the assignment too.
     pub fn narrowed(&self, circuit: Circuit<'_>, assignment: Assignment) -> Assignment
         ensures narrowed { result ≡ narrowed circuit.entry.inputs self.now.values assignment }
     {

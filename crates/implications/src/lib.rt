@@ -18,6 +18,7 @@ pub use known::Implied;
 pub struct Contradiction;
 
 // What follows at a gate, from what is known of it and of its sides.
+// All seven are cases of one enum: with an Option inside a Result the table below would be no plainer.
 #[derive(Clone, Copy)]
 enum Consequence {
     Nothing,

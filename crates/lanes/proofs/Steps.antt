@@ -2,7 +2,9 @@
 use Rattle.std.proofs.Common.{◌≡◌, ℕ, suc, ◌+◌, ◌^◌, ◌<◌, ◌≤◌, Bool, true, false, cond, not, ◌||◌, eqb, List, map, length, get_or, drop, sym, refl, ap, ◌∙◌, ⊎_elim, arith}
 use lib.Bits.{bit_and, bit_or}
 use Rattle.std.proofs.lemmas.Nat.{or_lt, pow_pos}
-use Rattle.std.proofs.lemmas.List.{at_drop_more}
+use Rattle.std.proofs.lemmas.List.{at_drop_more, length-take-le}
+use Rattle.tables.specs.declared.table.Table.{Table}
+use Rattle.tables.specs.Tables.{items}
 use Rattle.std.proofs.lemmas.Bool.{cases_eq, eq-eqb, ne_eqb}
 use Rattle.literals.specs.Bits.{bit}
 use Rattle.literals.specs.Literals.{no_literals}
@@ -58,3 +60,7 @@ with_small m i true small = or_lt (i + 1) m (2 ^ i) (omega (arith, twice)) (omeg
   twice : 2 ^ (i + 1) ≡ 2 ^ i + 2 ^ i
   twice = ap (λ n. 2 ^ n) {x = i + 1} {y = suc i} (omega arith) ∙ omega arith
 with_small m i false small = omega (arith, ap (λ n. 2 ^ n) {x = i + 1} {y = suc i} (omega arith))
+
+-- a table for the inputs has no more than 32 entries
+pub few_items : (t : Table ℕ 32) → length (items t) ≤ 32
+few_items t = omega (arith, length-take-le t.len t.slots t.within, t.within, t.whole)

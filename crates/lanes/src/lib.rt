@@ -55,25 +55,24 @@ fn next_rank(assignment: Assignment, index: u8, rank: u8) -> u8
     }
 }
 
-// How many of the first inputs are undecided.
-pub fn count_undecided(inputs: u8, assignment: Assignment) -> u8
-    requires few { inputs ≤ 32 }
-    ensures count { result ≡ undecided inputs assignment }
+// How many inputs are undecided. The same step counts them below, where each input's word goes by it, and one proof of that step serves both.
+pub fn count_undecided(circuit: Circuit<'_>, assignment: Assignment) -> u8
+    ensures count { result ≡ undecided circuit.entry.inputs assignment }
 {
     let mut rank = 0;
-    for index in 0..inputs {
+    for index in 0..circuit.inputs {
         rank = next_rank(assignment, index, rank);
     }
     rank
 }
 
-fn input_words(inputs: u8, assignment: Assignment) -> Table<u64, 32>
-    requires few { inputs ≤ 32 }
-    ensures words { items result ≡ input_words inputs assignment }
+// The lanes of each input. No iterator form is plainer: each index names an input of the assignment, and the rank goes with it.
+fn input_words(circuit: Circuit<'_>, assignment: Assignment) -> Table<u64, 32>
+    ensures words { items result ≡ input_words circuit.entry.inputs assignment }
 {
     let mut words = Table::new(0);
     let mut rank = 0;
-    for index in 0..inputs {
+    for index in 0..circuit.inputs {
         let _ = words.push(input_word(assignment, index, rank));
         rank = next_rank(assignment, index, rank);
     }
@@ -81,13 +80,13 @@ fn input_words(inputs: u8, assignment: Assignment) -> Table<u64, 32>
 }
 
 // The lanes in which the output is 1, from the words of the inputs.
-fn output_word(circuit: Circuit<'_>, inputs: &[u64]) -> u64
-    requires few { length inputs.now ≤ 32 }
-    ensures lanes { result ≡ output_word circuit.entry.gates.now circuit.entry.output inputs.now }
+#[tactic(auto, using(crate::proofs::Steps::few_items))]
+fn output_word(circuit: Circuit<'_>, inputs: &Table<u64, 32>) -> u64
+    ensures lanes { result ≡ output_word circuit.entry.gates.now circuit.entry.output (items inputs.now) }
 {
     let mut words = Table::new(0);
     let _ = words.push(0);
-    let _ = words.extend(inputs);
+    let _ = words.extend(inputs.as_slice());
     follow(&mut words, circuit.gates);
     value_of(words.as_slice(), circuit.output)
 }
@@ -111,7 +110,7 @@ fn met_word(inputs: &[u64], rule: LiteralSet) -> u64
 {
     let mut met = 0;
     for (index, word) in inputs.iter().enumerate() {
-        met = met | literals_word(rule, index, *word);
+        met |= literals_word(rule, index, *word);
     }
     met
 }
@@ -122,34 +121,43 @@ fn all_met_word(inputs: &[u64], sets: &[LiteralSet], as_bars: bool) -> u64
 {
     let mut all = 0xffff_ffff_ffff_ffff;
     for set in sets {
-        all = all & met_word(inputs, rule_of(*set, as_bars));
+        all &= met_word(inputs, rule_of(*set, as_bars));
     }
     all
 }
 
 // The lanes in which the output is 1, every rule is met and no bar covers.
-fn good_word(circuit: Circuit<'_>, rules: &[LiteralSet], bars: &[LiteralSet], inputs: &[u64]) -> u64
-    requires few { length inputs.now ≤ 32 }
-    ensures lanes { result ≡ good_word circuit.entry rules.now bars.now inputs.now }
+fn good_word(
+    circuit: Circuit<'_>,
+    rules: &[LiteralSet],
+    bars: &[LiteralSet],
+    inputs: &Table<u64, 32>,
+) -> u64
+    ensures lanes { result ≡ good_word circuit.entry rules.now bars.now (items inputs.now) }
 {
+    let words = inputs.as_slice();
     output_word(circuit, inputs)
-        & (all_met_word(inputs, rules, false) & all_met_word(inputs, bars, true))
+        & (all_met_word(words, rules, false) & all_met_word(words, bars, true))
 }
 
+// Whether a lane is set.
+fn has_lane(word: u64, lane: u8) -> bool
+    ensures set { result ≡ bit word lane }
+{
+    has_bit(word, lane as usize)
+}
+
+// The first lane that is set.
 fn first_lane(word: u64) -> Option<u8>
     ensures first { FirstLane word result }
 {
     if word == 0 {
         return None;
     }
-    for lane in 0..64u8 {
-        if has_bit(word, lane as usize) {
-            return Some(lane);
-        }
-    }
-    None
+    (0..64u8).find(|lane| has_lane(word, *lane))
 }
 
+// A mask with a bit more, if that is set.
 fn with_bit(mask: u64, index: usize, set: bool) -> u64
     requires few { index < 64 }
     ensures mask { result ≡ with_bit mask index set }
@@ -158,13 +166,14 @@ fn with_bit(mask: u64, index: usize, set: bool) -> u64
 }
 
 // The setting of a lane.
-fn lane_setting(inputs: &[u64], lane: u8) -> Assignment
-    requires few { length inputs.now ≤ 32 }
-    ensures setting { filled (length inputs.now) result ≡ map (λ w. bit w lane) inputs.now }
+#[tactic(auto, using(crate::proofs::Steps::few_items))]
+fn lane_setting(inputs: &Table<u64, 32>, lane: u8) -> Assignment
+    ensures setting { filled (length (items inputs.now)) result ≡ map (λ w. bit w lane) (items inputs.now) }
 {
+    let words = inputs.as_slice();
     let mut closed = 0;
-    for (index, word) in inputs.iter().enumerate() {
-        closed = with_bit(closed, index, has_bit(*word, lane as usize));
+    for (index, word) in words.iter().enumerate() {
+        closed = with_bit(closed, index, has_lane(*word, lane));
     }
     Assignment { closed, opened: 0 }
 }
@@ -179,10 +188,7 @@ pub fn try_all(
     requires few { undecided circuit.inputs assignment ≤ 6 }
     ensures tried { Tried circuit.entry.inputs (circuit_good circuit.entry rules.now bars.now) assignment result }
 {
-    let words = input_words(circuit.inputs, assignment);
-    let good = good_word(circuit, rules, bars, words.as_slice());
-    match first_lane(good) {
-        Some(lane) => Some(lane_setting(words.as_slice(), lane)),
-        None => None,
-    }
+    let words = input_words(circuit, assignment);
+    let lane = first_lane(good_word(circuit, rules, bars, &words))?;
+    Some(lane_setting(&words, lane))
 }

@@ -42,6 +42,7 @@ pub fn readable(literal: u16, variables: usize) -> u16
 }
 
 // The values of variable 0 and of the inputs.
+// No iterator form is plainer: each index picks a bit of the setting.
 fn input_values(inputs: usize, setting: Setting) -> Table<bool, 2081>
     requires few { inputs ≤ 32 }
     ensures inputs { items result ≡ false ∷ reading inputs setting }

@@ -2,6 +2,7 @@
 #![tactic(auto)]
 
 ghost use Rattle.std.specs.Prelude.{◌≡◌, Bool, true, false, not, ◌||◌, map};
+ghost use Rattle.search.specs.Assignments.{decided};
 ghost use Rattle.rules.specs.Rules.{as_rule, masked, is_met, undecided_in, several, is_quiet, wanted_at, scanned, scanned_both, found_by, any_unmet, has_unmet, Choice};
 
 use literals::LiteralSet;
@@ -158,7 +159,7 @@ impl Shortest {
         shortest
     }
 
-    // Counts in the variables of a mask.
+    // Counts in the variables of a mask. No iterator goes over the bits of a number.
     fn count(&mut self, mask: u64) {
         let mut left = mask;
         while left != 0 {
@@ -178,7 +179,7 @@ impl Shortest {
         }
     }
 
-    // The variable that occurs most; of several such, the first.
+    // The variable that occurs most; of several such, the first, where `max_by_key` would answer the last.
     fn most_frequent(&self) -> u8 {
         let mut best = 0;
         let mut most = 0;
@@ -192,11 +193,18 @@ impl Shortest {
     }
 }
 
+// Whether a variable is undecided.
+fn is_undecided(assignment: Assignment, variable: u8) -> bool
+    ensures undecided { result ≡ not (decided assignment variable) }
+{
+    !assignment.has_decided(variable)
+}
+
 // The first undecided variable.
 pub fn first_undecided(variables: u8, assignment: Assignment) -> Option<u8>
     ensures choice { Choice variables assignment true result }
 {
-    (0..variables).find(|variable| !assignment.has_decided(*variable))
+    (0..variables).find(|variable| is_undecided(assignment, *variable))
 }
 
 // The shortest rules that are not met, if there is one.
@@ -242,7 +250,7 @@ impl Tally {
         ensures choice { Choice variables assignment (has_unmet self.now) result }
     {
         let variable = self.shortest?.most_frequent();
-        if variable < variables && !assignment.has_decided(variable) {
+        if variable < variables && is_undecided(assignment, variable) {
             Some(variable)
         } else {
             first_undecided(variables, assignment)

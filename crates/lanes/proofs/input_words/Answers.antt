@@ -14,7 +14,7 @@ loop-index-preserved c =
     let now = items c.loop-index.words in
     let old = c.loop-index.invariant in
     let long : length now ≡ i = ap length old.0 ∙ length-map-range_with_len (λ k. input_word a k (undecided k a)) 0 i in
-    let room : length now + 1 ≤ 32 = omega arith in
+    let room : length now + 1 ≤ 32 = omega (arith, c.args.circuit.few_inputs) in
     let e = c.next_rank-rank.ensures.rank in (
       appended_in_room {T = ℕ} 32 now (c.input_word.result ∷ []) (items c.push.new.self) c.push.ensures.placed room
           ∙ ap₂ (λ ws w. ws ++ w ∷ []) old.0 (c.input_word.ensures.lanes ∙ ap (input_word a i) old.1)

@@ -1,4 +1,4 @@
-use Rattle.std.proofs.Common.{◌+◌, ap, ◌∙◌}
+use Rattle.std.proofs.Common.{◌∙◌, ap₂}
 use Rattle.networks.specs.Networks.{no_gate}
 use Rattle.implications.specs.Ternaries.{step_at}
 use Rattle.implications.proofs.Sound.{gate_right}
@@ -11,5 +11,5 @@ returns-in-Some c =
     let gate = c.in-Some.ensures.lookup.3 in
     record {
       right = λ V obeys s. gate_right V k.inputs k.gates.now c.args.index before c.step.new.self.values c.step.result c.args.self.now.whole k.few_inputs k.few_gates gate.0
-          (c.step.ensures.stepped ∙ ap (step_at before (k.inputs + 1 + c.args.index)) (gate.1 no_gate)) obeys s;
+          (c.step.ensures.stepped ∙ ap₂ (step_at before) c.gate_variable.ensures.variable (gate.1 no_gate)) obeys s;
     }
