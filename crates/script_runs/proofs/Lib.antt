@@ -1,3 +1,2 @@
-mod Assumed
 mod Released
 mod Found

@@ -1,22 +1,12 @@
 // Writing the rules that a sheet was loaded with.
-ghost use Rattle.std.specs.Prelude.{◌≡◌, length, replicate, IfOk};
-ghost use Rattle.dimacs_write.specs.Texts.{set_text, written, buffer_after};
+ghost use Rattle.std.specs.Prelude.{◌≡◌, replicate, IfOk};
 ghost use Rattle.script_runs.specs.Outcomes.{outcome_form};
 ghost use Rattle.script_runs.specs.Writing.{write_outcome};
 
 use super::{Outcome, Source};
 use dimacs_write::write;
-use faults::{Refusal, SheetFault};
-use literals::LiteralSet;
+use faults::Refusal;
 use std::alloc::{AllocError, Global};
-
-// WRITE into a buffer.
-fn write_into(vars: usize, rules: &[LiteralSet], buffer: &mut Vec<u8>) -> Result<usize, SheetFault>
-    ensures answer { result ≡ written vars rules.now (length buffer.old.items) }
-    ensures buffer { buffer.new.items ≡ buffer_after result (set_text vars rules.now) buffer.old.items }
-{
-    write(vars, rules, buffer.as_mut_slice())
-}
 
 // Writes the loaded rules into a buffer of so many bytes; there are none to write of a gate text.
 pub fn write_rules(heap: Global, source: Source, length: u16) -> Result<Outcome, AllocError>
@@ -26,7 +16,7 @@ pub fn write_rules(heap: Global, source: Source, length: u16) -> Result<Outcome,
         Source::Gates => Ok(Outcome::Bad),
         Source::Clauses(vars, rules) => {
             let mut buffer = vec![in heap; 0; length as usize]?;
-            match write_into(vars, rules, &mut buffer) {
+            match write(vars, rules, buffer.as_mut_slice()) {
                 Ok(size) => Ok(Outcome::Written(size, buffer)),
                 Err(fault) => Ok(Outcome::Refused(Refusal::from(fault))),
             }

@@ -1,4 +1,3 @@
-pub mod Lent
 mod Mirrored
 mod Sides
 mod Cards

@@ -19,24 +19,6 @@ use sheets::Sheet;
 use solver::Solver;
 use terms::terms;
 
-// LEAST into a buffer that the request brought.
-fn least_into<S: Solver>(sheet: &mut Sheet<S>, buffer: &mut Vec<i8>) -> Result<(), SheetFault>
-    ensures answer { result ≡ told (least_answer (sheet_meaning S.Solver sheet.old) (length buffer.old.items)) }
-    ensures buffer { buffer.new.items ≡ written (least_answer (sheet_meaning S.Solver sheet.old) (length buffer.old.items)) buffer.old.items }
-    ensures meaning_kept { sheet_meaning S.Solver sheet.new ≡ sheet_meaning S.Solver sheet.old }
-{
-    sheet.least(buffer.as_mut_slice())
-}
-
-// WHY into a buffer that the request brought.
-fn why_into<S: Solver>(sheet: &mut Sheet<S>, buffer: &mut Vec<i8>) -> Result<usize, SheetFault>
-    ensures answer { result ≡ counted (why_answer (sheet_meaning S.Solver sheet.old) (length buffer.old.items)) }
-    ensures buffer { buffer.new.items ≡ written (why_answer (sheet_meaning S.Solver sheet.old) (length buffer.old.items)) buffer.old.items }
-    ensures meaning_kept { sheet_meaning S.Solver sheet.new ≡ sheet_meaning S.Solver sheet.old }
-{
-    sheet.why(buffer.as_mut_slice())
-}
-
 // Puts one call to one sheet.
 fn serve_call<S: Solver>(sheet: &mut Sheet<S>, call: SheetCall) -> Response
     ensures answer { says result ≡ call_reply (sheet_meaning S.Solver sheet.old) call }
@@ -52,14 +34,14 @@ fn serve_call<S: Solver>(sheet: &mut Sheet<S>, call: SheetCall) -> Response
             sheet.release(ticket)?;
             Ok(Answer::Done)
         }
-        SheetCall::Least(mut buffer) => match least_into(sheet, &mut buffer) {
+        SheetCall::Least(mut buffer) => match sheet.least(buffer.as_mut_slice()) {
             Ok(()) => Ok(Answer::Least(buffer)),
             Err(fault) => Err(Refused {
                 fault,
                 returned: Returned::Literals(buffer),
             }),
         },
-        SheetCall::Why(mut buffer) => match why_into(sheet, &mut buffer) {
+        SheetCall::Why(mut buffer) => match sheet.why(buffer.as_mut_slice()) {
             Ok(size) => Ok(Answer::Why(size, buffer)),
             Err(fault) => Err(Refused {
                 fault,
@@ -70,16 +52,6 @@ fn serve_call<S: Solver>(sheet: &mut Sheet<S>, call: SheetCall) -> Response
 }
 
 impl<M: Solver, B: Solver> Pair<M, B> {
-    // TERMS into a buffer that the request brought.
-    fn terms_into(&mut self, buffer: &mut Vec<Term>) -> Result<usize, SheetFault>
-        ensures answer { result ≡ counted (terms_answer (sheet_meaning M.Solver self.old.make) (sheet_meaning B.Solver self.old.brk) (length buffer.old.items)) }
-        ensures buffer { buffer.new.items ≡ written (terms_answer (sheet_meaning M.Solver self.old.make) (sheet_meaning B.Solver self.old.brk) (length buffer.old.items)) buffer.old.items }
-        ensures make_kept { sheet_meaning M.Solver self.new.make ≡ sheet_meaning M.Solver self.old.make }
-        ensures break_kept { sheet_meaning B.Solver self.new.brk ≡ sheet_meaning B.Solver self.old.brk }
-    {
-        terms(&mut self.make, &mut self.brk, buffer.as_mut_slice())
-    }
-
     // Puts one request to the pair.
     fn serve_request(&mut self, request: Request) -> Response
         ensures answer { says result ≡ request_reply (sheet_meaning M.Solver self.old.make) (sheet_meaning B.Solver self.old.brk) request }
@@ -91,7 +63,11 @@ impl<M: Solver, B: Solver> Pair<M, B> {
                 Side::Make => serve_call(&mut self.make, call),
                 Side::Break => serve_call(&mut self.brk, call),
             },
-            Request::Terms(mut buffer) => match self.terms_into(&mut buffer) {
+            Request::Terms(mut buffer) => match terms(
+                &mut self.make,
+                &mut self.brk,
+                buffer.as_mut_slice(),
+            ) {
                 Ok(count) => Ok(Answer::Terms(count, buffer)),
                 Err(fault) => Err(Refused {
                     fault,

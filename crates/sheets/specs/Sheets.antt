@@ -55,6 +55,11 @@ abbrev pub assume_fault : SheetMeaning → ℤ → Option SheetFault
 assume_fault p l =
     cond (names p.meaning.contacts l) (cond (nat_lt (length p.held) 32) (cond (nat_lt p.count 65535) None (Some TooManyTickets)) (Some TooManyHeld)) (Some (Solver (BadLiteral 0)))
 
+-- a refusal, or nothing to tell
+abbrev pub admitted : Option SheetFault → Result (Unit {0}) SheetFault
+admitted None = Ok tt
+admitted (Some f) = Err f
+
 -- the ticket has the label and the next issue number, from 1
 abbrev pub next_ticket : SheetMeaning → Ticket
 next_ticket p = record { label = p.label; number = p.count + 1 }

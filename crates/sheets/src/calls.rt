@@ -4,7 +4,7 @@ ghost use Rattle.literals.specs.Literals.{names};
 ghost use Rattle.tables.specs.Tables.{items};
 ghost use Rattle.solver.specs.Meaning.{add_fault, with_rule};
 ghost use Rattle.solver.specs.Over.{meaning_of};
-ghost use Rattle.sheets.specs.Sheets.{sheet_meaning, New, opened, ruled, rule_answer, after_rule, assume_fault, next_ticket, assume_answer, with_held, after_assume, numbered_at, held_at, release_answer, without_held, after_release};
+ghost use Rattle.sheets.specs.Sheets.{sheet_meaning, New, opened, ruled, rule_answer, after_rule, assume_fault, admitted, next_ticket, assume_answer, with_held, after_assume, numbered_at, held_at, release_answer, without_held, after_release};
 
 use super::{Held, Sheet, Ticket, Unreleased};
 use faults::{SheetFault, SolverFault};
@@ -71,19 +71,20 @@ impl<S: Solver> Sheet<S> {
         add_rule(&mut self.solver, literals)
     }
 
-    // What ASSUME refuses a literal with.
-    fn refuses(&self, literal: i8) -> Option<SheetFault>
-        ensures fault { result ≡ assume_fault (sheet_meaning S.Solver self.now) literal }
+    // Whether ASSUME accepts a literal.
+    fn admit(&self, literal: i8) -> Result<(), SheetFault>
+        ensures answer { result ≡ admitted (assume_fault (sheet_meaning S.Solver self.now) literal) }
     {
         if !names_one_of(self.solver.contacts(), literal) {
-            Some(SheetFault::Solver(SolverFault::BadLiteral(0)))
-        } else if self.held.len() >= 32 {
-            Some(SheetFault::TooManyHeld)
-        } else if self.count >= 65535 {
-            Some(SheetFault::TooManyTickets)
-        } else {
-            None
+            return Err(SheetFault::Solver(SolverFault::BadLiteral(0)));
         }
+        if self.held.len() >= 32 {
+            return Err(SheetFault::TooManyHeld);
+        }
+        if self.count >= 65535 {
+            return Err(SheetFault::TooManyTickets);
+        }
+        Ok(())
     }
 
     // Places a literal last among the held ones and issues its ticket.
@@ -108,10 +109,8 @@ impl<S: Solver> Sheet<S> {
         ensures answer { result ≡ assume_answer (sheet_meaning S.Solver self.old) (assume_fault (sheet_meaning S.Solver self.old) literal) }
         ensures held { sheet_meaning S.Solver self.new ≡ after_assume (sheet_meaning S.Solver self.old) literal (assume_fault (sheet_meaning S.Solver self.old) literal) }
     {
-        match self.refuses(literal) {
-            Some(fault) => Err(fault),
-            None => Ok(self.hold(literal)),
-        }
+        self.admit(literal)?;
+        Ok(self.hold(literal))
     }
 
     // The place of the assumption that a ticket was issued for, if it is held here.

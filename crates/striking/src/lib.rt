@@ -52,7 +52,8 @@ fn keep_next<S: Solver>(solver: &mut S, kept: &mut Table<Term, 64>, term: Term, 
     }
 }
 
-// The terms that are kept, one after another from the first to the last.
+// The terms that are kept, one after another from the first to the last. The crate queries sieves literals by a loop of this shape: one for both would take
+// the question as a closure that says what it keeps of the solver, which is longer than the two.
 fn kept_of<S: Solver>(solver: &mut S, terms: &Table<Term, 64>) -> Table<Term, 64>
     ensures standing { items result ≡ unstruck (without_bars (meaning_of S.Solver solver.old)) [] (items terms.now) }
     ensures bars_apart { without_bars (meaning_of S.Solver solver.new) ≡ without_bars (meaning_of S.Solver solver.old) }
