@@ -2,7 +2,5 @@
 #![tactic(auto)]
 
 mod runs;
-mod shown;
 
 pub use runs::{Sources, obey_lines, run};
-pub use shown::{write_outcome, write_refusal};

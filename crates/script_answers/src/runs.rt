@@ -2,13 +2,13 @@
 ghost use Rattle.sheets.specs.Sheets.{sheet_meaning};
 ghost use Rattle.script_runs.specs.Fresh.{Fresh};
 
-use crate::shown::write_outcome;
 use model::Side;
 use script_runs::{Outcome, PairWithTickets, Source, write_rules};
 use scripts::{Action, Line, Script, read_line};
 use session::Pair;
 use solver::Solver;
 use std::alloc::Global;
+use std::fmt::Write;
 
 // What each sheet was loaded with.
 #[derive(Clone, Copy)]
@@ -43,11 +43,10 @@ pub fn obey_lines<M: Solver, B: Solver>(
     script: &[u8],
     out: &mut String,
 ) -> anyhow::Result<()> {
-    let mut lines = Script::new(script);
-    while let Some(line) = lines.next_line() {
+    for line in Script::new(script) {
         let line = read_line(heap, line)?;
         let outcome = come_of(heap, pair, sources, line)?;
-        write_outcome(out, &outcome)?;
+        write!(out, "{outcome}")?;
     }
     Ok(())
 }

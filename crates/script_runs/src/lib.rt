@@ -8,6 +8,7 @@ use settings::Term;
 mod held;
 mod keeping;
 mod lines;
+mod shown;
 mod turns;
 mod write;
 

@@ -6,8 +6,7 @@ use clauses::ClauseSolver;
 use clauses::counts::VariableCounts;
 use gates::GateSolver;
 use literals::LiteralSet;
-use sheets::Sheet;
-use solver::ContactCount;
+use solver::{ContactCount, Solver};
 use std::alloc::Global;
 use witnesses::WitnessCache;
 
@@ -48,8 +47,27 @@ const BREAK_GATES: &str = "aag 6 4 0 1 2
 
 const CONTACTS: usize = 4;
 
+// Whether each solver stands behind a witness cache.
+#[derive(Clone, Copy)]
+pub enum Behind {
+    Nothing,
+    Cache,
+}
+
+fn answers_behind<M: Solver + Drop, B: Solver + Drop>(
+    heap: Global,
+    behind: Behind,
+    make: M,
+    brk: B,
+) -> anyhow::Result<String> {
+    match behind {
+        Behind::Nothing => answers(heap, make, brk),
+        Behind::Cache => answers(heap, WitnessCache::new(make), WitnessCache::new(brk)),
+    }
+}
+
 // What a pair over the clause texts answers.
-pub fn clause_pair(heap: Global, cached: bool) -> anyhow::Result<String> {
+pub fn clause_pair(heap: Global, behind: Behind) -> anyhow::Result<String> {
     let mut make_store = [LiteralSet::empty(); 3];
     let mut break_store = [LiteralSet::empty(); 3];
     let (Ok(make_size), Ok(break_size)) = (
@@ -66,19 +84,11 @@ pub fn clause_pair(heap: Global, cached: bool) -> anyhow::Result<String> {
     };
     let make = ClauseSolver::new(&make_store[0..make_size.count.min(3)], make_counts);
     let brk = ClauseSolver::new(&break_store[0..break_size.count.min(3)], break_counts);
-    if cached {
-        answers(
-            heap,
-            Sheet::open(WitnessCache::new(make), 1),
-            Sheet::open(WitnessCache::new(brk), 2),
-        )
-    } else {
-        answers(heap, Sheet::open(make, 1), Sheet::open(brk, 2))
-    }
+    answers_behind(heap, behind, make, brk)
 }
 
 // What a pair over the gate texts answers.
-pub fn gate_pair(heap: Global, cached: bool) -> anyhow::Result<String> {
+pub fn gate_pair(heap: Global, behind: Behind) -> anyhow::Result<String> {
     let mut make_store = [Gate { left: 0, right: 0 }; 3];
     let mut break_store = [Gate { left: 0, right: 0 }; 3];
     let (Ok(make_network), Ok(break_network)) = (
@@ -87,29 +97,18 @@ pub fn gate_pair(heap: Global, cached: bool) -> anyhow::Result<String> {
     ) else {
         return Err(anyhow!("a text was refused"));
     };
-    let (Ok(make_count), Ok(break_count)) = (
-        ContactCount::new(CONTACTS),
-        ContactCount::new(CONTACTS),
-    ) else {
+    let Ok(count) = ContactCount::new(CONTACTS) else {
         return Err(anyhow!("a text was refused"));
     };
     let make = GateSolver::new(
         &make_store[0..make_network.count.min(3)],
         make_network.output,
-        make_count,
+        count,
     );
     let brk = GateSolver::new(
         &break_store[0..break_network.count.min(3)],
         break_network.output,
-        break_count,
+        count,
     );
-    if cached {
-        answers(
-            heap,
-            Sheet::open(WitnessCache::new(make), 1),
-            Sheet::open(WitnessCache::new(brk), 2),
-        )
-    } else {
-        answers(heap, Sheet::open(make, 1), Sheet::open(brk, 2))
-    }
+    answers_behind(heap, behind, make, brk)
 }

@@ -1,10 +1,8 @@
 // What the three engineers ask.
-ghost use Rattle.sheets.specs.Sheets.{sheet_meaning, InOrder};
-ghost use Rattle.script_runs.specs.Keeping.{Keeps};
-ghost use Rattle.script_answers.specs.Fresh.{Fresh};
 
 use script_answers::{Sources, obey_lines};
-use script_runs::{Kept, Source};
+use script_runs::{PairWithTickets, Source};
+use session::Pair;
 use sheets::Sheet;
 use solver::Solver;
 use std::alloc::Global;
@@ -41,63 +39,44 @@ terms 63
 // One engineer's lines.
 fn work<M: Solver, B: Solver>(
     heap: Global,
-    make: &mut Sheet<M>,
-    brk: &mut Sheet<B>,
-    kept: &mut Kept,
+    pair: &mut PairWithTickets<M, B>,
     name: &str,
     script: &str,
     out: &mut String,
-) -> anyhow::Result<()>
-    requires make_in_order { InOrder M.Solver make.old }
-    requires break_in_order { InOrder B.Solver brk.old }
-    requires keeps { Keeps (sheet_meaning M.Solver make.old) (sheet_meaning B.Solver brk.old) kept.old }
-    ensures keeps { Keeps (sheet_meaning M.Solver make.new) (sheet_meaning B.Solver brk.new) kept.new }
-    ensures make_in_order { InOrder M.Solver make.new }
-    ensures break_in_order { InOrder B.Solver brk.new }
-{
+) -> anyhow::Result<()> {
     writeln!(out, "{name}")?;
     let sources = Sources {
         make: Source::Gates,
         brk: Source::Gates,
     };
-    obey_lines(heap, make, brk, sources, kept, script.as_bytes(), out)
+    obey_lines(heap, pair, sources, script.as_bytes(), out)
 }
 
 // All three, one after the other.
 fn work_in_turn<M: Solver, B: Solver>(
     heap: Global,
-    make: &mut Sheet<M>,
-    brk: &mut Sheet<B>,
-    kept: &mut Kept,
+    pair: &mut PairWithTickets<M, B>,
     out: &mut String,
-) -> anyhow::Result<()>
-    requires make_in_order { InOrder M.Solver make.old }
-    requires break_in_order { InOrder B.Solver brk.old }
-    requires keeps { Keeps (sheet_meaning M.Solver make.old) (sheet_meaning B.Solver brk.old) kept.old }
-    ensures keeps { Keeps (sheet_meaning M.Solver make.new) (sheet_meaning B.Solver brk.new) kept.new }
-    ensures make_in_order { InOrder M.Solver make.new }
-    ensures break_in_order { InOrder B.Solver brk.new }
-{
-    work(heap, make, brk, kept, "the first engineer", FIRST, out)?;
-    work(heap, make, brk, kept, "the second", SECOND, out)?;
-    work(heap, make, brk, kept, "the third", THIRD, out)
+) -> anyhow::Result<()> {
+    work(heap, pair, "the first engineer", FIRST, out)?;
+    work(heap, pair, "the second", SECOND, out)?;
+    work(heap, pair, "the third", THIRD, out)
 }
 
-// What a pair answers to all three. Nothing is held at the start, and at the end every ticket that is left goes back.
+// What a pair over two solvers answers to all three. Nothing is held at the start, and at the end every ticket that is left goes back.
 pub fn answers<M: Solver + Drop, B: Solver + Drop>(
     heap: Global,
-    mut make: Sheet<M>,
-    mut brk: Sheet<B>,
-) -> anyhow::Result<String>
-    requires make_in_order { InOrder M.Solver make }
-    requires break_in_order { InOrder B.Solver brk }
-    requires make_fresh { Fresh 1 (sheet_meaning M.Solver make) }
-    requires break_fresh { Fresh 2 (sheet_meaning B.Solver brk) }
-{
+    make: M,
+    brk: B,
+) -> anyhow::Result<String> {
     let mut out = String::new(heap);
-    let mut kept = Kept::none(heap)?;
-    let result = work_in_turn(heap, &mut make, &mut brk, &mut kept, &mut out);
-    kept.give_all_back(&mut make, &mut brk);
+    let pair = Pair {
+        make: Sheet::open(make, 1),
+        brk: Sheet::open(brk, 2),
+    };
+    let mut pair = PairWithTickets::new(heap, pair)?;
+    let result = work_in_turn(heap, &mut pair, &mut out);
+    let _ = pair.end();
     result?;
     Ok(out)
 }
