@@ -6,7 +6,6 @@ ghost use Rattle.script_runs.specs.Fresh.{Fresh};
 
 use crate::PairWithTickets;
 use session::Pair;
-use sheets::Sheet;
 use solver::Solver;
 use std::alloc::{AllocError, Global};
 use tickets::Tickets;

@@ -1,5 +1,5 @@
 // A list of requests on a pair of sheets.
-ghost use Rattle.std.specs.Prelude.{◌≡◌, List, ◌++◌, map, IfErr, MatchResult};
+ghost use Rattle.std.specs.Prelude.{◌≡◌, List, ◌++◌, IfErr, MatchResult};
 ghost use Rattle.model.specs.Model.{PairModel};
 ghost use Rattle.model.specs.Guarantee.{Event};
 ghost use Rattle.session.specs.Requests.{events};

@@ -1,8 +1,6 @@
 // One request on a pair of sheets.
-ghost use Rattle.std.specs.Prelude.{◌≡◌, List, [], ◌∷◌, ◌++◌, length};
-ghost use Rattle.sheets.specs.Answers.{least_answer, why_answer, told, counted, written};
+ghost use Rattle.std.specs.Prelude.{◌≡◌, List, [], ◌∷◌, ◌++◌};
 ghost use Rattle.sheets.specs.Sheets.{sheet_meaning};
-ghost use Rattle.terms.specs.Answers.{terms_answer};
 ghost use Rattle.model.specs.Model.{PairModel};
 ghost use Rattle.model.specs.Calls.{answered, next};
 ghost use Rattle.model.specs.Guarantee.{Event};
@@ -12,9 +10,7 @@ ghost use Rattle.session.specs.Mirrors.{Mirrors, Stands};
 
 use crate::Pair;
 use crate::request::{Answer, Refused, Request, Response, Returned, SheetCall};
-use faults::SheetFault;
 use model::Side;
-use settings::Term;
 use sheets::Sheet;
 use solver::Solver;
 use terms::terms;
