@@ -174,7 +174,7 @@ impl Implied {
         }
     }
 
-    // One pass over the gates in some order; answers whether more is known.
+    // One pass over the gates in some order; answers whether more is known. The order is one of indices, since an iterator of gates would have to promise of each whose gate it is.
     fn sweep<I: Iterator<Item = usize> + Drop>(
         &mut self,
         circuit: Circuit<'_>,

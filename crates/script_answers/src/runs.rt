@@ -3,7 +3,7 @@ ghost use Rattle.sheets.specs.Sheets.{sheet_meaning};
 ghost use Rattle.script_runs.specs.Fresh.{Fresh};
 
 use model::Side;
-use script_runs::{Outcome, PairWithTickets, Source, write_rules};
+use script_runs::{Outcome, PairWithTickets, Source, TicketRoom, write_rules};
 use scripts::{Action, Line, Script, read_line};
 use session::Pair;
 use solver::Solver;
@@ -62,7 +62,8 @@ pub fn run<M: Solver + Drop, B: Solver + Drop>(
     requires make_fresh { Fresh 1 (sheet_meaning M.Solver pair.make) }
     requires break_fresh { Fresh 2 (sheet_meaning B.Solver pair.brk) }
 {
-    let mut pair = PairWithTickets::new(heap, pair)?;
+    let room = TicketRoom::new(heap)?;
+    let mut pair = PairWithTickets::new(pair, room);
     let result = obey_lines(heap, &mut pair, sources, script, out);
     let _ = pair.end();
     result

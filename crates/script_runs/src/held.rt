@@ -10,7 +10,7 @@ use tickets::Tickets;
 
 // MAKE has the label 1 and BREAK the label 2, and the tickets kept are those of the assumptions that each holds, in held order: what ASSUME gave out and RELEASE has not accepted back.
 pub struct PairWithTickets<M: Solver, B: Solver> {
-    pub(crate) pair: Pair<M, B>,
+    pub pair: Pair<M, B>,
     pub(crate) make_tickets: Tickets,
     pub(crate) break_tickets: Tickets,
     pub ghost make_label: { pair.make.label ≡ 1 },

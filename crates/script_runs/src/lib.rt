@@ -8,11 +8,13 @@ use settings::Term;
 mod held;
 mod keeping;
 mod lines;
+mod room;
 mod shown;
 mod turns;
 mod write;
 
 pub use held::PairWithTickets;
+pub use room::TicketRoom;
 pub use write::write_rules;
 
 // What comes of a line. A buffer comes with what was written at its front.

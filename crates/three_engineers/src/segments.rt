@@ -1,7 +1,7 @@
 // What the three engineers ask.
 
 use script_answers::{Sources, obey_lines};
-use script_runs::{PairWithTickets, Source};
+use script_runs::{PairWithTickets, Source, TicketRoom};
 use session::Pair;
 use sheets::Sheet;
 use solver::Solver;
@@ -74,7 +74,8 @@ pub fn answers<M: Solver + Drop, B: Solver + Drop>(
         make: Sheet::open(make, 1),
         brk: Sheet::open(brk, 2),
     };
-    let mut pair = PairWithTickets::new(heap, pair)?;
+    let room = TicketRoom::new(heap)?;
+    let mut pair = PairWithTickets::new(pair, room);
     let result = work_in_turn(heap, &mut pair, &mut out);
     let _ = pair.end();
     result?;
