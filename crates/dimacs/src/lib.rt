@@ -28,7 +28,7 @@ pub struct Rules<'a> {
 }
 
 // The rules of a clause text as they lie in a store, and how many variables the text has.
-#[derive(Clone, Copy)]
+#[derive(Clone, Copy, PartialEq, Eq)]
 pub struct LoadedRules<'a> {
     pub vars: usize,
     pub rules: &'a [LiteralSet],

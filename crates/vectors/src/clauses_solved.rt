@@ -39,12 +39,14 @@ fn load_rules<'a>(text: &[u8], store: &'a mut [LiteralSet]) -> Result<LoadedRule
     })
 }
 
+// Writes the literals of the least setting that the rules allow.
 fn least(loaded: LoadedRules, out: &mut [i8]) -> Result<(), SheetFault> {
     let counts = VariableCounts::new(loaded.vars, contacts_of(loaded.vars))?;
     let mut sheet = Sheet::open(ClauseSolver::new(loaded.rules, counts), 1);
     sheet.least(out)
 }
 
+// The least setting's literals in a buffer of their own, none where no setting is allowed.
 fn least_of(
     heap: Global,
     loaded: LoadedRules,
@@ -59,8 +61,7 @@ fn least_of(
 
 // Whether the text loads as the same rules over as many variables.
 fn holds_again(text: &[u8], loaded: LoadedRules, store: &mut [LiteralSet]) -> bool {
-    load_rules(text, store).is_ok_and(|again| again.vars == loaded.vars
-        && *again.rules == *loaded.rules)
+    load_rules(text, store).is_ok_and(|again| again == loaded)
 }
 
 // Whether the rules, once they are written, read back as the same rules over as many variables.
@@ -74,6 +75,7 @@ fn read_back(heap: Global, loaded: LoadedRules) -> Result<bool, AllocError> {
     Ok(holds_again(&text.as_slice()[0..used], loaded, store.as_mut_slice()))
 }
 
+// Solves a text, and writes its rules and reads them again.
 pub fn solve(heap: Global, text: &[u8]) -> Result<Solved, AllocError> {
     let mut store = vec![in heap; LiteralSet::empty(); MOST_RULES]?;
     match load_rules(text, store.as_mut_slice()) {
