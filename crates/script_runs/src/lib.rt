@@ -1,8 +1,8 @@
 // Obeys the lines of a script on a pair of sheets, MAKE with label 1 and BREAK with label 2.
 #![tactic(auto)]
 
+use dimacs::LoadedRules;
 use faults::Refusal;
-use literals::LiteralSet;
 use settings::Term;
 
 mod held;
@@ -38,9 +38,9 @@ pub enum Outcome {
     Refused(Refusal),
 }
 
-// What a sheet's solver was loaded with: the number of variables and the rules of a clause text, or the gates of a gate text.
+// What a sheet's solver was loaded with: the rules of a clause text, or the gates of a gate text.
 #[derive(Clone, Copy)]
 pub enum Source<'a> {
-    Clauses(usize, &'a [LiteralSet]),
+    Clauses(LoadedRules<'a>),
     Gates,
 }
