@@ -17,7 +17,7 @@ pub use held::PairWithTickets;
 pub use room::TicketRoom;
 pub use write::write_rules;
 
-// What comes of a line. A buffer comes with what was written at its front.
+// What comes of a line. A buffer comes whole, with what was written at its front, as the pair gave it back.
 #[derive(Drop)]
 pub enum Outcome {
     // there was nothing to obey
