@@ -9,6 +9,7 @@ ghost use Rattle.sheets.specs.Answers.{told, written};
 
 use clauses::ClauseSolver;
 use clauses::counts::VariableCounts;
+use dimacs::LoadedRules;
 use dimacs_load::{load, measure};
 use faults::SheetFault;
 use literals::LiteralSet;
@@ -20,17 +21,12 @@ mod shown;
 pub use shown::LeastLines;
 
 // Writes the literals of the earliest setting of n contacts that some values of the other variables meet every rule with.
-fn least_of_rules(
-    rules: &[LiteralSet],
-    variables: usize,
-    n: usize,
-    out: &mut [i8],
-) -> Result<(), SheetFault>
-    ensures answer { result ≡ told (sheet_least variables n rules.now (length out.old)) }
-    ensures buffer { out.new ≡ written (sheet_least variables n rules.now (length out.old)) out.old }
+fn least_of_rules(loaded: LoadedRules, n: usize, out: &mut [i8]) -> Result<(), SheetFault>
+    ensures answer { result ≡ told (sheet_least loaded.entry.vars n loaded.entry.rules.now (length out.old)) }
+    ensures buffer { out.new ≡ written (sheet_least loaded.entry.vars n loaded.entry.rules.now (length out.old)) out.old }
 {
-    let counts = VariableCounts::new(variables, n)?;
-    let solver = ClauseSolver::new(rules, counts);
+    let counts = VariableCounts::new(loaded.vars, n)?;
+    let solver = ClauseSolver::new(loaded.rules, counts);
     let cache = WitnessCache::new(solver);
     let mut sheet = Sheet::open(cache, 1);
     sheet.least(out)
@@ -48,7 +44,11 @@ pub fn least_of_text(
 {
     let size = load(text, n, store)?;
     let count = size.count;
-    least_of_rules(&store[0..count], size.vars, n, out)
+    let loaded = LoadedRules {
+        vars: size.vars,
+        rules: &store[0..count],
+    };
+    least_of_rules(loaded, n, out)
 }
 
 // The same with each variable of the text as a contact; answers how many there are.

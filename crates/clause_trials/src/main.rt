@@ -24,6 +24,7 @@ struct Trial {
     asked: Table<i8, 1>,
 }
 
+// Three outcomes that are counted; none has a value.
 enum Verdict {
     Yes,
     No,

@@ -8,6 +8,7 @@ mod body;
 mod head;
 mod literal;
 
+use literals::LiteralSet;
 use texts::Words;
 
 // A text of which nothing is read yet. Clause texts have a type of their own for it, so that its heading gives the reader of rules.
@@ -24,6 +25,13 @@ pub struct Rules<'a> {
     count: u16,
     // the place behind the last line that was read
     behind: usize,
+}
+
+// The rules of a clause text as they lie in a store, and how many variables the text has.
+#[derive(Clone, Copy, PartialEq, Eq)]
+pub struct LoadedRules<'a> {
+    pub vars: usize,
+    pub rules: &'a [LiteralSet],
 }
 
 impl<'a> Rules<'a> {

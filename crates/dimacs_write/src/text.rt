@@ -7,6 +7,7 @@ ghost use Rattle.dimacs_write.specs.Puts.{over, Put, variable_text, written_over
 ghost use Rattle.dimacs_write.specs.Texts.{rule_text, set_texts, set_text, written, buffer_after};
 
 use super::Output;
+use dimacs::LoadedRules;
 use faults::SheetFault;
 use literals::{LiteralSet, has_bit};
 
@@ -37,65 +38,65 @@ impl<'a> Output<'a> {
     }
 
     // Puts the lines of all rules.
-    fn rules(&mut self, rules: &[LiteralSet], vars: usize)
+    fn rules(&mut self, loaded: LoadedRules)
         requires low { self.old.length < 2 ^ 32 }
-        requires few { vars ≤ 64 }
-        requires short { length rules.now ≤ 4096 }
-        ensures put { Put self.old (set_texts vars rules.now) self.new }
+        requires few { loaded.vars ≤ 64 }
+        requires short { length loaded.rules.now ≤ 4096 }
+        ensures put { Put self.old (set_texts loaded.entry.vars loaded.entry.rules.now) self.new }
     {
-        for set in rules {
-            self.rule(set, vars);
+        for set in loaded.rules {
+            self.rule(set, loaded.vars);
         }
     }
 
     // Puts the whole text.
-    fn text(&mut self, rules: &[LiteralSet], vars: usize)
+    fn text(&mut self, loaded: LoadedRules)
         requires empty { self.old.length ≡ 0 }
-        requires few { vars ≤ 64 }
-        requires short { length rules.now ≤ 4096 }
-        ensures put { Put self.old (set_text vars rules.now) self.new }
+        requires few { loaded.vars ≤ 64 }
+        requires short { length loaded.rules.now ≤ 4096 }
+        ensures put { Put self.old (set_text loaded.entry.vars loaded.entry.rules.now) self.new }
     {
         self.bytes(b"p cnf ");
-        self.spaced(vars);
-        self.number(rules.len());
+        self.spaced(loaded.vars);
+        self.number(loaded.rules.len());
         self.bytes(b"\n");
-        self.rules(rules, vars);
+        self.rules(loaded);
     }
 }
 
 // Puts the whole text into a buffer, and tells its length.
-fn put_text(buffer: &mut [u8], rules: &[LiteralSet], vars: usize) -> usize
-    requires few { vars ≤ 64 }
-    requires short { length rules.now ≤ 4096 }
-    ensures bytes { buffer.new ≡ over buffer.old 0 (set_text vars rules.now) }
-    ensures next { result ≡ length (set_text vars rules.now) }
+fn put_text(buffer: &mut [u8], loaded: LoadedRules) -> usize
+    requires few { loaded.vars ≤ 64 }
+    requires short { length loaded.rules.now ≤ 4096 }
+    ensures bytes { buffer.new ≡ over buffer.old 0 (set_text loaded.entry.vars loaded.entry.rules.now) }
+    ensures next { result ≡ length (set_text loaded.entry.vars loaded.entry.rules.now) }
 {
     let mut output = Output::new(buffer);
-    output.text(rules, vars);
+    output.text(loaded);
     output.length
 }
 
 // Writes the text where the buffer has room for it. No buffer has room for more rules or variables than a clause text may have.
-fn put_whole(out: &mut [u8], rules: &[LiteralSet], vars: usize) -> Result<usize, SheetFault>
-    ensures answer { result ≡ written vars rules.now (length out.old) }
-    ensures buffer { out.new ≡ written_over result (set_text vars rules.now) out.old }
+fn put_whole(out: &mut [u8], loaded: LoadedRules) -> Result<usize, SheetFault>
+    ensures answer { result ≡ written loaded.entry.vars loaded.entry.rules.now (length out.old) }
+    ensures buffer { out.new ≡ written_over result (set_text loaded.entry.vars loaded.entry.rules.now) out.old }
 {
-    if vars < 1 || vars > 64 || rules.len() > 4096 {
+    if loaded.vars < 1 || loaded.vars > 64 || loaded.rules.len() > 4096 {
         return Err(SheetFault::ShortBuffer);
     }
     let mut nothing: [u8; 0] = [];
-    if put_text(&mut nothing, rules, vars) > out.len() {
+    if put_text(&mut nothing, loaded) > out.len() {
         return Err(SheetFault::ShortBuffer);
     }
-    Ok(put_text(out, rules, vars))
+    Ok(put_text(out, loaded))
 }
 
 // Writes the rules as a clause text at the buffer's front, and tells its length; a refusal leaves the buffer as it was.
-pub fn write(vars: usize, rules: &[LiteralSet], out: &mut [u8]) -> Result<usize, SheetFault>
-    ensures answer { result ≡ written vars rules.now (length out.old) }
-    ensures buffer { out.new ≡ buffer_after result (set_text vars rules.now) out.old }
-    ensures back { ReadsBack vars rules.now result out.new }
-    ensures again { (text : List ℕ) → as_sets (read_cnf text) ≡ Ok (vars, rules.now) → WrittenAgain vars rules.now text }
+pub fn write(loaded: LoadedRules, out: &mut [u8]) -> Result<usize, SheetFault>
+    ensures answer { result ≡ written loaded.entry.vars loaded.entry.rules.now (length out.old) }
+    ensures buffer { out.new ≡ buffer_after result (set_text loaded.entry.vars loaded.entry.rules.now) out.old }
+    ensures back { ReadsBack loaded.entry.vars loaded.entry.rules.now result out.new }
+    ensures again { (text : List ℕ) → as_sets (read_cnf text) ≡ Ok (loaded.entry.vars, loaded.entry.rules.now) → WrittenAgain loaded.entry.vars loaded.entry.rules.now text }
 {
-    put_whole(out, rules, vars)
+    put_whole(out, loaded)
 }

@@ -19,7 +19,7 @@ use Rattle.aiger.proofs.Grammars.{reads_just}
 use Rattle.aiger_load.specs.declared.Network.{Network}
 use Rattle.aiger_load.specs.Loads.{network_of, loaded, gates}
 use Rattle.networks.specs.Networks.{network_allows, first_gates}
-use Rattle.gates.specs.declared.GateSolver.{GateSolver}
+use Rattle.gates.specs.declared.network_solver.GateSolver.{GateSolver}
 use Rattle.gates.specs.Gates.{gate_meaning, loaded_meaning}
 use Rattle.clause_texts.specs.Answer.{found}
 use Rattle.clause_texts.proofs.Loaded.{front_is}

@@ -8,7 +8,7 @@ use Rattle.search.specs.declared.Assignment.{Assignment}
 use Rattle.search.specs.Assignments.{from_set, agreeing, filled, low_half}
 use Rattle.search.specs.Search.{Answer}
 use Rattle.search.proofs.Assignments.{length_filled, reading_low}
-use Rattle.gates.specs.declared.GateSolver.{GateSolver}
+use Rattle.gates.specs.declared.network_solver.GateSolver.{GateSolver}
 use Rattle.gates.specs.Gates.{gate_contacts, gate_good, gate_meaning}
 
 module _ (s : GateSolver) (ls : List ℤ) (named : first_unnamed (gate_contacts s) ls ≡ None) where

@@ -23,7 +23,7 @@ use Rattle.implications.specs.declared.known.Implied.{Implied}
 use Rattle.implications.specs.Ternaries.{narrowed, Agree}
 use Rattle.implications.specs.Implied.{Implies, Right}
 use Rattle.implications.proofs.Narrowing.{narrowed_reaches}
-use Rattle.gates.specs.declared.GateSolver.{GateSolver}
+use Rattle.gates.specs.declared.network_solver.GateSolver.{GateSolver}
 use Rattle.gates.specs.Gates.{gate_contacts, gate_added, gate_bars, gate_good, gate_scan}
 
 -- where all is decided, one setting alone agrees

@@ -1,5 +1,5 @@
 -- What a gate solver means.
-use Rattle.std.specs.Prelude.{ℕ, ◌≤◌, Bool, ◌&&◌, List, [], Option}
+use Rattle.std.specs.Prelude.{ℕ, ◌≤◌, Bool, not, ◌&&◌, List, [], Option, ◌==◌}
 use Rattle.std.proofs.Common.{arith}
 use Rattle.literals.specs.declared.LiteralSet.{LiteralSet}
 use Rattle.aiger.specs.declared.Gate.{Gate}
@@ -10,7 +10,7 @@ use Rattle.additions.specs.Additions.{rules_of, bars_of, passes}
 use Rattle.search.specs.declared.Assignment.{Assignment}
 use Rattle.rules.specs.declared.Finding.{Finding}
 use Rattle.rules.specs.Rules.{scanned_both}
-use Rattle.gates.specs.declared.GateSolver.{GateSolver}
+use Rattle.gates.specs.declared.network_solver.GateSolver.{GateSolver}
 
 -- each input is a contact
 abbrev pub gate_contacts : GateSolver → ℕ
@@ -44,3 +44,7 @@ gate_good s x = circuit_allows s.circuit x && passes s.additions x
 -- what the first added rule says that forces a literal or has failed, then the first such bar as a rule
 abbrev pub gate_scan : GateSolver → Assignment → Option Finding
 gate_scan s a = scanned_both (gate_contacts s) (gate_added s) (gate_bars s) a
+
+-- two assignments decide otherwise of some variable
+abbrev pub differ : Assignment → Assignment → Bool
+differ a b = not (a.closed == b.closed && a.opened == b.opened)

@@ -9,7 +9,7 @@ ghost use Rattle.search.specs.Assignments.{undecided};
 ghost use Rattle.rules.specs.Rules.{Choice};
 ghost use Rattle.solver.specs.Meaning.{Answers};
 ghost use Rattle.networks.specs.Networks.{first_gates};
-ghost use Rattle.gates.specs.Gates.{loaded_meaning, gate_contacts, gate_base, gate_added, gate_bars, gate_meaning, gate_good, gate_scan, few_variables};
+ghost use Rattle.gates.specs.Gates.{loaded_meaning, gate_contacts, gate_base, gate_added, gate_bars, gate_meaning, gate_good, gate_scan, differ, few_variables};
 
 use additions::Additions;
 use aiger::Gate;
@@ -30,12 +30,9 @@ const AT_ONCE: u8 = 6;
 // Those of so many are all tried, since that takes less time than looking ahead.
 const TRIED_ALL: u8 = 10;
 
-// The gates lie as records in the store that the caller lends.
-#[derive(Drop)]
-pub struct GateSolver<'a> {
-    circuit: Circuit<'a>,
-    additions: Additions,
-}
+mod network_solver;
+
+pub use network_solver::GateSolver;
 
 impl<'a> GateSolver<'a> {
     // A solver over lent records, with no added rule and no bar. A side of a gate that names the gate itself or a later one reads as false, as does an output beyond the gates.
@@ -47,6 +44,13 @@ impl<'a> GateSolver<'a> {
             additions: Additions::none(),
         }
     }
+}
+
+// Whether two assignments decide otherwise of some variable.
+fn differ(one: Assignment, other: Assignment) -> bool
+    ensures differ { result ≡ differ one other }
+{
+    one != other
 }
 
 impl GateSolver<'_> {
@@ -90,8 +94,8 @@ impl GateSolver<'_> {
         let Ok(known) = imply(self.circuit, assignment) else {
             return Found::Conflict;
         };
-        let narrower = known.narrowed(self.circuit, assignment);
-        if narrower != assignment {
+        let narrower = known.narrowed(self.circuit.inputs, assignment);
+        if differ(narrower, assignment) {
             return Found::Narrowed(narrower);
         }
         match choose(&known, self.circuit, assignment) {
@@ -158,7 +162,7 @@ impl<'a> Look for GateSolver<'a> {
     }
 
     fn look(&self, assignment: Assignment) -> Found {
-        let undecided = count_undecided(self.circuit, assignment);
+        let undecided = count_undecided(self.circuit.inputs, assignment);
         if undecided <= AT_ONCE {
             self.try_lanes(assignment)
         } else if undecided <= TRIED_ALL {
@@ -178,7 +182,7 @@ impl<'a> Solver for GateSolver<'a> {
 
     ghost bars = { gate_bars };
 
-    ghost few = { λ s. (s.circuit.some_input, s.circuit.few_inputs) };
+    ghost few = { λ s. (s.some_contact, s.circuit.few_inputs) };
 
     fn contacts(&self) -> usize {
         usize::from(self.circuit.inputs)

@@ -209,11 +209,11 @@ impl Implied {
     }
 
     // The assignment with what is known of the inputs. Each index names an input of the assignment too.
-    pub fn narrowed(&self, circuit: Circuit<'_>, assignment: Assignment) -> Assignment
-        ensures narrowed { result ≡ narrowed circuit.entry.inputs self.now.values assignment }
+    pub fn narrowed(&self, inputs: u8, assignment: Assignment) -> Assignment
+        ensures narrowed { result ≡ narrowed inputs self.now.values assignment }
     {
         let mut narrower = assignment;
-        for index in 0..circuit.inputs {
+        for index in 0..inputs {
             narrower = take(narrower, index, self.values[index as usize + 1]);
         }
         narrower

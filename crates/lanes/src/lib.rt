@@ -45,7 +45,7 @@ fn input_word(assignment: Assignment, index: u8, rank: u8) -> u64
 
 // How many inputs are undecided up to an index, from how many are before it.
 fn next_rank(assignment: Assignment, index: u8, rank: u8) -> u8
-    requires few { rank ≤ 32 }
+    requires few { rank < 255 }
     ensures rank { result ≡ next_rank assignment index rank }
 {
     if assignment.has_decided(index) {
@@ -56,11 +56,11 @@ fn next_rank(assignment: Assignment, index: u8, rank: u8) -> u8
 }
 
 // How many inputs are undecided. The same step counts them below, where each input's word goes by it, and one proof of that step serves both.
-pub fn count_undecided(circuit: Circuit<'_>, assignment: Assignment) -> u8
-    ensures count { result ≡ undecided circuit.entry.inputs assignment }
+pub fn count_undecided(inputs: u8, assignment: Assignment) -> u8
+    ensures count { result ≡ undecided inputs assignment }
 {
     let mut rank = 0;
-    for index in 0..circuit.inputs {
+    for index in 0..inputs {
         rank = next_rank(assignment, index, rank);
     }
     rank

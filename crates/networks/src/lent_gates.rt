@@ -12,7 +12,6 @@ pub struct Circuit<'a> {
     pub gates: &'a [Gate],
     pub inputs: u8,
     pub output: u16,
-    pub ghost some_input: { 1 ≤ inputs },
     pub ghost few_inputs: { inputs ≤ 32 },
     pub ghost few_gates: { length gates.now ≤ 2048 },
 }

@@ -3,6 +3,7 @@ use Rattle.std.proofs.Common.{◌≡◌, ℕ, ◌+◌, ◌<◌, ◌≤◌, Bool,
 use Rattle.std.specs.Option.{option_map}
 use Rattle.std.proofs.lemmas.List.{append_assoc, append-nil, length-take-le, take_more, take_all}
 use Rattle.std.proofs.lemmas.Bool.{both_ways, and_from}
+use Rattle.tables.specs.Tables.{items}
 use Rattle.settings.specs.declared.Setting.{Setting}
 use Rattle.settings.specs.Readings.{reading}
 use Rattle.settings.specs.Settings.{agrees, fits, literal, literals}
@@ -12,7 +13,8 @@ use Rattle.laws.proofs.Literals.{allowed_fits, length_literals, literals_push}
 use Rattle.laws.proofs.Named.{Named, named_append, named_cons, named_literals, names_literal}
 use Rattle.laws.proofs.Prefix.{next_open}
 use Rattle.solver.specs.Meaning.{Meaning, stands, stands_with}
-use Rattle.queries.specs.Queries.{possible_with, Shown, Ready, opened_next, least_literals}
+use Rattle.queries.specs.Queries.{possible_with, Shown, Ready, opened_next, wanted_next, least_literals}
+use Rattle.queries.specs.declared.Placing.{Placing}
 use Rattle.queries.proofs.Answers.{length_reading, fault_none, possible_named}
 
 abbrev pub earliest_of : Meaning → List ℤ → List Bool
@@ -102,6 +104,28 @@ module _ (m : Meaning) (held : List ℤ) (named : Named m.contacts held) (one : 
         not_not : (b : Bool) → not (not b) ≡ b
         not_not true = refl
         not_not false = refl
+
+  -- the same of the state of the search
+  module _ (k : ℕ) (p : Placing) (lt : k < m.contacts) (kept : items p.held.now ≡ held) (at : Placed m held k (items p.placed) p.last) where
+    pub as_many : length (items p.placed) ≡ k
+    as_many = placed_length k (items p.placed) p.last (omega arith) at
+
+    fewer : length (items p.placed) < m.contacts
+    fewer = omega (arith, as_many)
+
+    here : Placed m held (length (items p.placed)) (items p.placed) p.last
+    here = subst (λ j. Placed m held j (items p.placed) p.last) (sym as_many) at
+
+    wanted : opened_next held (items p.placed) (length (items p.placed)) ≡ wanted_next p
+    wanted = ap (λ h. opened_next h (items p.placed) (length (items p.placed))) (sym kept)
+
+    pub placing_ready : Ready m (wanted_next p) p.last (length (items p.placed))
+    placing_ready = subst (λ ls. Ready m ls p.last (length (items p.placed))) wanted (placed_ready (length (items p.placed)) (items p.placed) p.last fewer here)
+
+    pub placing_next : (r : Option Setting) (q : Placing) → is_some r ≡ possible_with m (wanted_next p) → Shown m (wanted_next p) r → items q.placed ≡ items p.placed ++ literal (length (items p.placed)) (not (is_some r)) ∷ [] → q.last ≡ unwrap_or r p.last → Placed m held (k + 1) (items q.placed) q.last
+    placing_next r q found shown next last =
+        let step = placed_next (length (items p.placed)) (items p.placed) p.last fewer here r (items q.placed) (found ∙ ap (possible_with m) (sym wanted)) (subst (λ ls. Shown m ls r) (sym wanted) shown) next in
+        subst (λ j. Placed m held (j + 1) (items q.placed) q.last) as_many (subst (Placed m held (length (items p.placed) + 1) (items q.placed)) (sym last) step)
 
   pub placed_all : (k : ℕ) (placed : List ℤ) (last : Setting) → m.contacts ≤ k → Placed m held k placed last → Some placed ≡ least_literals m held
   placed_all k placed last le at =

@@ -1,5 +1,5 @@
 -- What a solver answers to LEAST and WHY under given literals.
-use Rattle.std.specs.Prelude.{◌≡◌, ℕ, Bool, true, false, cond, List, [], ◌∷◌, ◌++◌, ℤ, is_some, Some, None, Ok, Err, Option, Result}
+use Rattle.std.specs.Prelude.{◌≡◌, ℕ, Bool, true, false, cond, List, [], ◌∷◌, ◌++◌, length, ℤ, is_some, Some, None, Ok, Err, Option, Result}
 use Rattle.std.specs.Option.{option_map}
 use Rattle.faults.specs.declared.SolverFault.{SolverFault}
 use Rattle.tables.specs.declared.table.Table.{Table}
@@ -10,6 +10,7 @@ use Rattle.settings.specs.Settings.{agrees, literal, literals}
 use Rattle.settings.specs.Least.{least, some}
 use Rattle.laws.specs.Choices.{chosen, why}
 use Rattle.solver.specs.Meaning.{Meaning, stands, stands_with, literal_fault}
+use Rattle.queries.specs.declared.Placing.{Placing}
 
 -- each literal names a contact, and some standing setting agrees with all of them
 unfoldable pub possible_with : Meaning → List ℤ → Bool
@@ -23,6 +24,10 @@ Shown m ls (Some s) = stands_with m ls (reading m.contacts s) ≡ true
 -- what is held and what is placed, and contact k + 1 wanted open
 unfoldable pub opened_next : List ℤ → List ℤ → ℕ → List ℤ
 opened_next held placed k = (held ++ placed) ++ literal k false ∷ []
+
+-- the same of the state of LEAST's search, whose next contact is the one behind those placed
+abbrev pub wanted_next : Placing → List ℤ
+wanted_next p = opened_next (items p.held.now) (items p.placed) (length (items p.placed))
 
 -- each literal names a contact, and the setting found last stands and agrees with all of them where it has contact k + 1 open
 pub record Ready (m : Meaning) (ls : List ℤ) (last : Setting) (k : ℕ) : Type 0 where

@@ -1,14 +1,14 @@
 // The earliest setting and the reason of smallest number, over any solver.
 #![tactic(auto)]
 
-ghost use Rattle.std.specs.Prelude.{◌≡◌, ◌+◌, ◌<◌, ◌≤◌, true, not, [], ◌∷◌, ◌++◌, length, is_some, if◌then◌else◌, Some, None};
+ghost use Rattle.std.specs.Prelude.{◌≡◌, ◌+◌, ◌<◌, ◌≤◌, true, not, [], ◌∷◌, ◌++◌, length, is_some, if◌then◌else◌, Some, None, unwrap_or};
 ghost use Rattle.tables.specs.Tables.{items};
 ghost use Rattle.settings.specs.Settings.{literal};
 ghost use Rattle.settings.specs.Readings.{reading};
 ghost use Rattle.laws.specs.Choices.{enough, trim};
 ghost use Rattle.solver.specs.Meaning.{literal_fault, stands, stands_with};
 ghost use Rattle.solver.specs.Over.{meaning_of};
-ghost use Rattle.queries.specs.Queries.{possible_with, Shown, Ready, opened_next, least_literals, why_literals, answered, listed};
+ghost use Rattle.queries.specs.Queries.{possible_with, Shown, Ready, wanted_next, least_literals, why_literals, answered, listed};
 
 use faults::SolverFault;
 use settings::{Setting, literal_of};
@@ -76,59 +76,55 @@ pub fn reason<S: Solver>(
     }
 }
 
-// What is held and placed, with contact k + 1 wanted open behind it.
-fn wanting_open(held: &[i8], placed: &Table<i8, 32>, k: usize) -> Table<i8, 65>
-    requires few { length held.now ≤ 32 }
-    requires contact { k < 32 }
-    ensures all { items result ≡ opened_next held.now (items placed.now) k }
-{
-    let mut all = joined(held, placed.as_slice());
-    let _ = all.push(literal_of(k, false));
-    all
+// How far the search for the earliest setting has come: the literals held, those placed so far, one for each contact from the first on, and the standing setting found last.
+#[derive(Drop)]
+struct Placing<'a> {
+    held: &'a Table<i8, 32>,
+    placed: Table<i8, 32>,
+    last: Setting,
 }
 
-// A standing setting that agrees with what is held and placed and has contact k + 1 open: the one found last where it serves, and else ASK tells.
-fn next_open<S: Solver>(
-    solver: &mut S,
-    held: &[i8],
-    placed: &Table<i8, 32>,
-    last: Setting,
-    k: usize,
-) -> Option<Setting>
-    requires few { length held.now ≤ 32 }
-    requires contact { k < 32 }
-    requires ready { Ready (meaning_of S.Solver solver.old) (opened_next held.now (items placed.now) k) last k }
-    ensures found { is_some result ≡ possible_with (meaning_of S.Solver solver.old) (opened_next held.now (items placed.now) k) }
-    ensures shown { Shown (meaning_of S.Solver solver.old) (opened_next held.now (items placed.now) k) result }
-    ensures meaning_kept { meaning_of S.Solver solver.new ≡ meaning_of S.Solver solver.old }
-{
-    if last.agrees(solver.contacts(), literal_of(k, false)) {
-        return Some(last);
+impl<'a> Placing<'a> {
+    // What is held and placed, with the next contact wanted open behind it.
+    fn wanting_open(&self) -> Table<i8, 65>
+        requires room { length (items self.now.placed) < 32 }
+        ensures all { items result ≡ wanted_next self.now }
+    {
+        let mut all = joined(self.held.as_slice(), self.placed.as_slice());
+        let _ = all.push(literal_of(self.placed.len(), false));
+        all
     }
-    let asked = wanting_open(held, placed, k);
-    witness(solver, asked.as_slice())
-}
 
-// Places the literal of contact k + 1 last: open where a standing setting agrees with that and with all that is held and placed, and else closed.
-fn place_next<S: Solver>(
-    solver: &mut S,
-    held: &[i8],
-    placed: &mut Table<i8, 32>,
-    last: Setting,
-    k: usize,
-) -> Option<Setting>
-    requires few { length held.now ≤ 32 }
-    requires contact { k < 32 }
-    requires room { length (items placed.old) < 32 }
-    requires ready { Ready (meaning_of S.Solver solver.old) (opened_next held.now (items placed.old) k) last k }
-    ensures found { is_some result ≡ possible_with (meaning_of S.Solver solver.old) (opened_next held.now (items placed.old) k) }
-    ensures shown { Shown (meaning_of S.Solver solver.old) (opened_next held.now (items placed.old) k) result }
-    ensures next { items placed.new ≡ items placed.old ++ literal k (not (is_some result)) ∷ [] }
-    ensures meaning_kept { meaning_of S.Solver solver.new ≡ meaning_of S.Solver solver.old }
-{
-    let found = next_open(solver, held, placed, last, k);
-    let _ = placed.push(literal_of(k, found.is_none()));
-    found
+    // A standing setting that agrees with what is held and placed and has the next contact open: the one found last where it serves, and else ASK tells.
+    fn next_open<S: Solver>(&self, solver: &mut S) -> Option<Setting>
+        requires room { length (items self.now.placed) < 32 }
+        requires ready { Ready (meaning_of S.Solver solver.old) (wanted_next self.now) self.now.last (length (items self.now.placed)) }
+        ensures found { is_some result ≡ possible_with (meaning_of S.Solver solver.old) (wanted_next self.now) }
+        ensures shown { Shown (meaning_of S.Solver solver.old) (wanted_next self.now) result }
+        ensures meaning_kept { meaning_of S.Solver solver.new ≡ meaning_of S.Solver solver.old }
+    {
+        if self
+            .last
+            .agrees(solver.contacts(), literal_of(self.placed.len(), false))
+        {
+            return Some(self.last);
+        }
+        let asked = self.wanting_open();
+        witness(solver, asked.as_slice())
+    }
+
+    // Places the literal of the next contact last: open with the setting that was found, and closed where there is none.
+    fn place(&mut self, found: Option<Setting>)
+        requires room { length (items self.old.placed) < 32 }
+        ensures next { items self.new.placed ≡ items self.old.placed ++ literal (length (items self.old.placed)) (not (is_some found)) ∷ [] }
+        ensures last { self.new.last ≡ unwrap_or found self.old.last }
+        ensures held_kept { self.new.held ≡ self.old.held }
+    {
+        let _ = self
+            .placed
+            .push(literal_of(self.placed.len(), found.is_none()));
+        self.last = found.unwrap_or(self.last);
+    }
 }
 
 // The literals of the earliest standing setting that agrees with the held ones, where one such setting is known.
@@ -138,14 +134,16 @@ fn decided<S: Solver>(solver: &mut S, held: &Table<i8, 32>, first: Setting) -> T
     ensures earliest { Some (items result) ≡ least_literals (meaning_of S.Solver solver.old) (items held.now) }
     ensures meaning_kept { meaning_of S.Solver solver.new ≡ meaning_of S.Solver solver.old }
 {
-    let n = solver.contacts();
-    let all = held.as_slice();
-    let mut placed = Table::new(0);
-    let mut last = first;
-    for k in 0..n {
-        last = place_next(solver, all, &mut placed, last, k).unwrap_or(last);
+    let mut placing = Placing {
+        held,
+        placed: Table::new(0),
+        last: first,
+    };
+    for _ in 0..solver.contacts() {
+        let found = placing.next_open(solver);
+        placing.place(found);
     }
-    placed
+    placing.placed
 }
 
 // LEAST: the literals of the earliest standing setting that agrees with the held ones, or none where there is no such setting.

@@ -14,5 +14,5 @@ written_outcome (Err f) text out = refused (sheet_refusal f)
 
 -- over a gate text the line is bad
 abbrev pub write_outcome : Source → List ℕ → OutcomeForm
-write_outcome (Clauses V rules) out = written_outcome (written V rules.now (length out)) (set_text V rules.now) out
+write_outcome (Clauses l) out = written_outcome (written l.vars l.rules.now (length out)) (set_text l.vars l.rules.now) out
 write_outcome Gates out = bad

@@ -1,8 +1,8 @@
 // Obeys the lines of a script on a pair of sheets, MAKE with label 1 and BREAK with label 2.
 #![tactic(auto)]
 
+use dimacs::LoadedRules;
 use faults::Refusal;
-use literals::LiteralSet;
 use settings::Term;
 
 mod held;
@@ -17,7 +17,7 @@ pub use held::PairWithTickets;
 pub use room::TicketRoom;
 pub use write::write_rules;
 
-// What comes of a line. A buffer comes with what was written at its front.
+// What comes of a line. A buffer comes whole, with what was written at its front, as the pair gave it back.
 #[derive(Drop)]
 pub enum Outcome {
     // there was nothing to obey
@@ -38,9 +38,9 @@ pub enum Outcome {
     Refused(Refusal),
 }
 
-// What a sheet's solver was loaded with: the number of variables and the rules of a clause text, or the gates of a gate text.
+// What a sheet's solver was loaded with: the rules of a clause text, or the gates of a gate text.
 #[derive(Clone, Copy)]
 pub enum Source<'a> {
-    Clauses(usize, &'a [LiteralSet]),
+    Clauses(LoadedRules<'a>),
     Gates,
 }

@@ -8,6 +8,6 @@ use tickets::Tickets;
 pub struct TicketRoom {
     pub(crate) make: Tickets,
     pub(crate) brk: Tickets,
-    ghost make_none: { listed make ≡ [] },
-    ghost break_none: { listed brk ≡ [] },
+    pub ghost make_none: { listed make ≡ [] },
+    pub ghost break_none: { listed brk ≡ [] },
 }

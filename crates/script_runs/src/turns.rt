@@ -44,7 +44,7 @@ pub fn ask<M: Solver, B: Solver>(
     }
 }
 
-// ASSUME, put to one sheet of the pair.
+// ASSUME, put to one sheet of the pair; in place, the proof of its caller did not close.
 fn put_assume<M: Solver, B: Solver>(pair: &mut Pair<M, B>, side: Side, literal: i8) -> Response
     ensures answer { says result ≡ assume_reply (sided side (sheet_meaning M.Solver pair.old.make) (sheet_meaning B.Solver pair.old.brk)) literal }
     ensures make_after { sheet_meaning M.Solver pair.new.make ≡ make_assumed side (sheet_meaning M.Solver pair.old.make) literal }
@@ -82,7 +82,7 @@ pub fn assume<M: Solver, B: Solver>(
     }
 }
 
-// RELEASE, put to one sheet of the pair.
+// RELEASE, put to one sheet of the pair; in place, the proof of its caller did not close.
 fn put_release<M: Solver, B: Solver>(pair: &mut Pair<M, B>, side: Side, ticket: Ticket) -> Response
     ensures answer { says result ≡ release_reply (sided side (sheet_meaning M.Solver pair.old.make) (sheet_meaning B.Solver pair.old.brk)) ticket }
     ensures make_after { sheet_meaning M.Solver pair.new.make ≡ make_released side (sheet_meaning M.Solver pair.old.make) ticket }

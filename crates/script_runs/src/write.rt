@@ -14,9 +14,9 @@ pub fn write_rules(heap: Global, source: Source, length: u16) -> Result<Outcome,
 {
     match source {
         Source::Gates => Ok(Outcome::Bad),
-        Source::Clauses(vars, rules) => {
+        Source::Clauses(loaded) => {
             let mut buffer = vec![in heap; 0; length as usize]?;
-            match write(vars, rules, buffer.as_mut_slice()) {
+            match write(loaded, buffer.as_mut_slice()) {
                 Ok(size) => Ok(Outcome::Written(size, buffer)),
                 Err(fault) => Ok(Outcome::Refused(Refusal::from(fault))),
             }

@@ -121,7 +121,8 @@ pub trait Look {
         ensures says { Says (size self.now) (good self.now) assignment result };
 }
 
-// No choice is pending, or n + 1 choices are: each was tried open, and closed is still to try.
+// No choice is pending, or n + 1 choices are: each was tried open, and closed is still to try. The machine below matches this state and what a look found,
+// so its two states have names; the pending choices lie in an array of fixed length, since a search takes no memory.
 #[derive(Clone, Copy)]
 enum State {
     Free,

@@ -14,6 +14,7 @@ use std::collections::VecDeque;
 impl<M: Solver, B: Solver> Pair<M, B> {
     // Serves the requests, one after the other, and answers with their responses. For every start and every past by which the pair came from new sheets the guarantee
     // goes on to hold, so that the next engineer goes on where this one ended. Where there is no memory for the responses, the requests come back and nothing is done.
+    #[tactic(auto, using(crate::proofs::Serving::serving_none))]
     pub fn serve(
         &mut self,
         heap: Global,

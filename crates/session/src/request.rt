@@ -22,7 +22,7 @@ pub enum Request {
     Terms(Vec<Term>),
 }
 
-// What an accepted request answers. Buffers come back with what was written at their front.
+// What an accepted request answers. Buffers come back whole, with what was written at their front: the guarantee speaks of them to the last entry, so a size stands beside.
 pub enum Answer {
     Done,
     Issued(Ticket),

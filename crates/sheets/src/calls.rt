@@ -125,6 +125,7 @@ impl<S: Solver> Sheet<S> {
     }
 
     // Takes the assumption at a place out.
+    #[tactic(auto, using(crate::proofs::Order::named_without))]
     fn strike(&mut self, place: usize)
         ensures struck { sheet_meaning S.Solver self.new ≡ without_held (sheet_meaning S.Solver self.old) place }
     {

@@ -27,7 +27,7 @@ pub struct Ticket {
 }
 
 // A sheet owns one solver of any kind, and allows the settings that stand in it. Its label tells its tickets from those of other sheets, and `count` is how many it has issued.
-// The solver is open to calls on two sheets at once.
+// The solver is open to calls on two sheets at once, which have to leave the sheet in order.
 #[derive(Drop)]
 pub struct Sheet<S: Solver> {
     pub solver: S,

@@ -4,6 +4,7 @@
 use anyhow::anyhow;
 use clauses::ClauseSolver;
 use clauses::counts::VariableCounts;
+use dimacs::LoadedRules;
 use dimacs_load::load;
 use faults::{Refusal, SheetFault};
 use literals::{LiteralSet, Spaced};
@@ -18,24 +19,17 @@ use witnesses::WitnessCache;
 // A text has at most 4,096 rules.
 const MOST_RULES: usize = 4_096;
 
-// Loaded rules, and how many variables their text has.
-#[derive(Clone, Copy)]
-struct Rules<'a> {
-    records: &'a [LiteralSet],
-    variables: usize,
-}
-
 // TERMS over new sheets, each with a witness cache.
 fn terms_of_rules(
     n: usize,
-    make: Rules<'_>,
-    brk: Rules<'_>,
+    make: LoadedRules<'_>,
+    brk: LoadedRules<'_>,
     out: &mut [Term],
 ) -> Result<usize, SheetFault> {
-    let make_counts = VariableCounts::new(make.variables, n)?;
-    let break_counts = VariableCounts::new(brk.variables, n)?;
-    let make_solver = WitnessCache::new(ClauseSolver::new(make.records, make_counts));
-    let break_solver = WitnessCache::new(ClauseSolver::new(brk.records, break_counts));
+    let make_counts = VariableCounts::new(make.vars, n)?;
+    let break_counts = VariableCounts::new(brk.vars, n)?;
+    let make_solver = WitnessCache::new(ClauseSolver::new(make.rules, make_counts));
+    let break_solver = WitnessCache::new(ClauseSolver::new(brk.rules, break_counts));
     let mut make_sheet = Sheet::open(make_solver, 1);
     let mut break_sheet = Sheet::open(break_solver, 2);
     terms(&mut make_sheet, &mut break_sheet, out)
@@ -46,12 +40,12 @@ fn load_rules<'a>(
     text: &[u8],
     n: usize,
     store: &'a mut [LiteralSet],
-) -> Result<Rules<'a>, SheetFault> {
+) -> Result<LoadedRules<'a>, SheetFault> {
     let size = load(text, n, store)?;
     let count = size.count;
-    Ok(Rules {
-        records: &store[0..count],
-        variables: size.vars,
+    Ok(LoadedRules {
+        vars: size.vars,
+        rules: &store[0..count],
     })
 }
 

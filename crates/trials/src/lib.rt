@@ -10,7 +10,7 @@ use faults::SheetFault;
 use sheets::{Sheet, Ticket};
 use solver::Solver;
 
-// A question to a sheet that is answered with literals in a buffer.
+// A question to a sheet that is answered with literals in a buffer. It is a value, so that a table can name it and it can be put again for each literal that is assumed.
 #[derive(Clone, Copy)]
 pub enum Question {
     Least,

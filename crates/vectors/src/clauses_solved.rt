@@ -1,7 +1,8 @@
 // What a clause text comes to: its least setting, and whether its rules read back as the same once they are written.
 use clauses::ClauseSolver;
 use clauses::counts::VariableCounts;
-use dimacs_load::{Size, load, measure};
+use dimacs::LoadedRules;
+use dimacs_load::{load, measure};
 use dimacs_write::write;
 use faults::SheetFault;
 use literals::LiteralSet;
@@ -27,59 +28,61 @@ fn contacts_of(vars: usize) -> usize {
     vars.min(MOST_CONTACTS)
 }
 
-fn load_all(text: &[u8], store: &mut [LiteralSet]) -> Result<Size, SheetFault> {
+// Loads a text into a store for its rules.
+fn load_rules<'a>(text: &[u8], store: &'a mut [LiteralSet]) -> Result<LoadedRules<'a>, SheetFault> {
     let n = contacts_of(measure(text)?.vars);
-    load(text, n, store)
+    let size = load(text, n, store)?;
+    let count = size.count;
+    Ok(LoadedRules {
+        vars: size.vars,
+        rules: &store[0..count],
+    })
 }
 
-fn least(rules: &[LiteralSet], vars: usize, out: &mut [i8]) -> Result<(), SheetFault> {
-    let counts = VariableCounts::new(vars, contacts_of(vars))?;
-    let mut sheet = Sheet::open(ClauseSolver::new(rules, counts), 1);
+// Writes the literals of the least setting that the rules allow.
+fn least(loaded: LoadedRules, out: &mut [i8]) -> Result<(), SheetFault> {
+    let counts = VariableCounts::new(loaded.vars, contacts_of(loaded.vars))?;
+    let mut sheet = Sheet::open(ClauseSolver::new(loaded.rules, counts), 1);
     sheet.least(out)
 }
 
+// The least setting's literals in a buffer of their own, none where no setting is allowed.
 fn least_of(
     heap: Global,
-    rules: &[LiteralSet],
-    vars: usize,
+    loaded: LoadedRules,
 ) -> Result<Result<Option<Vec<i8>>, SheetFault>, AllocError> {
-    let mut literals = vec![in heap; 0i8; contacts_of(vars)]?;
-    match least(rules, vars, literals.as_mut_slice()) {
+    let mut literals = vec![in heap; 0i8; contacts_of(loaded.vars)]?;
+    match least(loaded, literals.as_mut_slice()) {
         Ok(()) => Ok(Ok(Some(literals))),
         Err(SheetFault::NoneAllowed) => Ok(Ok(None)),
         Err(fault) => Ok(Err(fault)),
     }
 }
 
-fn holds_again(text: &[u8], rules: &[LiteralSet], vars: usize, store: &mut [LiteralSet]) -> bool {
-    match load_all(text, store) {
-        Ok(size) => size.vars == vars && size.count == rules.len() && *rules == *store,
-        Err(_) => false,
-    }
+// Whether the text loads as the same rules over as many variables.
+fn holds_again(text: &[u8], loaded: LoadedRules, store: &mut [LiteralSet]) -> bool {
+    load_rules(text, store).is_ok_and(|again| again == loaded)
 }
 
 // Whether the rules, once they are written, read back as the same rules over as many variables.
-fn read_back(heap: Global, rules: &[LiteralSet], vars: usize) -> Result<bool, AllocError> {
+fn read_back(heap: Global, loaded: LoadedRules) -> Result<bool, AllocError> {
     let mut text = vec![in heap; 0u8; LONGEST_TEXT]?;
-    let mut store = vec![in heap; LiteralSet::empty(); rules.len()]?;
-    let Ok(length) = write(vars, rules, text.as_mut_slice()) else {
+    let mut store = vec![in heap; LiteralSet::empty(); loaded.rules.len()]?;
+    let Ok(length) = write(loaded, text.as_mut_slice()) else {
         return Ok(false);
     };
     let used = length.min(text.len());
-    Ok(holds_again(&text.as_slice()[0..used], rules, vars, store.as_mut_slice()))
+    Ok(holds_again(&text.as_slice()[0..used], loaded, store.as_mut_slice()))
 }
 
+// Solves a text, and writes its rules and reads them again.
 pub fn solve(heap: Global, text: &[u8]) -> Result<Solved, AllocError> {
     let mut store = vec![in heap; LiteralSet::empty(); MOST_RULES]?;
-    match load_all(text, store.as_mut_slice()) {
-        Ok(size) => {
-            let count = size.count.min(store.len());
-            let rules = &store.as_slice()[0..count];
-            Ok(Solved {
-                least: least_of(heap, rules, size.vars)?,
-                reads_back: read_back(heap, rules, size.vars)?,
-            })
-        }
+    match load_rules(text, store.as_mut_slice()) {
+        Ok(loaded) => Ok(Solved {
+            least: least_of(heap, loaded)?,
+            reads_back: read_back(heap, loaded)?,
+        }),
         Err(fault) => Ok(Solved {
             least: Err(fault),
             reads_back: false,

@@ -13,5 +13,5 @@ use tables::table::Table;
 pub struct WitnessCache<S: Solver> {
     pub(crate) below: S,
     pub(crate) seen: Table<Setting, 16>,
-    ghost standing: { all_stand (meaning_of S.Solver below) (items seen) ≡ true },
+    pub ghost standing: { all_stand (meaning_of S.Solver below) (items seen) ≡ true },
 }

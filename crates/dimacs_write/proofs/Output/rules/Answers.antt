@@ -7,8 +7,8 @@ use Rattle.dimacs_write.proofs.Output.rules.Goals as goal
 
 pub loop-set-preserved : goal.loop-set-preserved
 loop-set-preserved c =
-    let V = c.args.vars in
-    let rs = c.args.rules.now in
+    let V = c.args.loaded.vars in
+    let rs = c.args.loaded.rules.now in
     let i = c.loop-set.set-index in
     let told = c.rule.ensures in (
       λ last rest. c.loop-set.invariant.0 last (put_both c.loop-set.self c.rule.new.self last (rule_text (listed V (get_or rs i no_literals))) (set_texts V (drop (i + 1) rs)) (set_texts V (drop i rs)) (at_drop_more (set_texts V) rs i no_literals c.loop-set-test.true) told.put rest),
@@ -17,6 +17,6 @@ loop-set-preserved c =
 
 pub returns : goal.returns
 returns c =
-    let rs = c.args.rules.now in
+    let rs = c.args.loaded.rules.now in
     let past : length rs ≤ c.loop-set.set-index = omega arith in
-    record { put = c.loop-set.invariant.0 c.loop-set.self (put_none c.loop-set.self (set_texts c.args.vars (drop c.loop-set.set-index rs)) (ap (set_texts c.args.vars) (drop_of_length-le rs past))) }
+    record { put = c.loop-set.invariant.0 c.loop-set.self (put_none c.loop-set.self (set_texts c.args.loaded.vars (drop c.loop-set.set-index rs)) (ap (set_texts c.args.loaded.vars) (drop_of_length-le rs past))) }

@@ -7,8 +7,8 @@ use Rattle.dimacs_write.proofs.Output.text.Goals as goal
 
 pub returns : goal.returns
 returns c =
-    let V = c.args.vars in
-    let rs = c.args.rules.now in
+    let V = c.args.loaded.vars in
+    let rs = c.args.loaded.rules.now in
     let n = length rs in
     let R = set_texts V rs in
     let count = ap (λ k. decimal V ++ (32 ∷ (decimal k ++ (10 ∷ R)))) (sym (length-map rs (listed V))) in

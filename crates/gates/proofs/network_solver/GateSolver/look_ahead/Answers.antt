@@ -2,7 +2,7 @@ use Rattle.std.proofs.Common.{sym, subst}
 use Rattle.search.specs.Search.{Says}
 use Rattle.gates.specs.Gates.{gate_contacts, gate_good}
 use Rattle.gates.proofs.Looks.{scan_says}
-use Rattle.gates.proofs.GateSolver.look_ahead.Goals as goal
+use Rattle.gates.proofs.network_solver.GateSolver.look_ahead.Goals as goal
 
 pub returns-in-Some : goal.returns-in-Some
 returns-in-Some c =

@@ -3,7 +3,7 @@ use Rattle.settings.specs.Readings.{reading}
 use Rattle.rules.specs.Rules.{Choice}
 use Rattle.gates.specs.Gates.{gate_contacts, gate_good}
 use Rattle.gates.proofs.Looks.{stands_met, fails_none}
-use Rattle.gates.proofs.GateSolver.decide.Goals as goal
+use Rattle.gates.proofs.network_solver.GateSolver.decide.Goals as goal
 
 pub returns-then-stands : goal.returns-then-stands
 returns-then-stands c =

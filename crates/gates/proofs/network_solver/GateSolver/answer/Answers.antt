@@ -4,7 +4,7 @@ use Rattle.solver.specs.Meaning.{Answers}
 use Rattle.search.specs.Assignments.{from_set}
 use Rattle.gates.specs.Gates.{gate_contacts, gate_good, gate_meaning}
 use Rattle.gates.proofs.Answered.{answered_none, answered_some}
-use Rattle.gates.proofs.GateSolver.answer.Goals as goal
+use Rattle.gates.proofs.network_solver.GateSolver.answer.Goals as goal
 
 pub returns-in_err-found : goal.returns-in_err-found
 returns-in_err-found c =
