@@ -53,19 +53,23 @@ loaded_is n records c size = go (fit n c.vars) (leb (length c.rules) records) wh
   go false b e = absurd (let y : ◌≡◌ {A = Bool} false true = cc in false≢true y)
 
 -- what was laid into a store lies at its front
-pub front_is : {A : Type 0} (sets s : List A) (k : ℕ) → k ≡ length sets → take (k - 0) (sets ++ drop (length sets) s) ≡ sets
-front_is sets s k e = ap (λ j. take j (sets ++ drop (length sets) s)) {x = k - 0} {y = length sets} (omega arith) ∙ take-append-le (length sets) sets (drop (length sets) s) (le_refl _) ∙ take_all (length sets) sets (le_refl _)
+front : {A : Type 0} (sets s : List A) (k : ℕ) → k ≡ length sets → take k (sets ++ drop (length sets) s) ≡ sets
+front sets s k e = ap (λ j. take j (sets ++ drop (length sets) s)) e ∙ take-append-le (length sets) sets (drop (length sets) s) (le_refl _) ∙ take_all (length sets) sets (le_refl _)
 
-pub loaded_answer : (n records room : ℕ) (text : List ℕ) (size : Size) (s rules : List LiteralSet) → Ok size ≡ loaded n records (read_cnf text) → rules ≡ take (size.count - 0) (laid (sets (read_cnf text)) s) → sheet_least size.vars n rules room ≡ text_least n records room (read_cnf text)
+-- the same of the slice from the first record on
+pub front_is : {A : Type 0} (sets s : List A) (k : ℕ) → k ≡ length sets → take (k - 0) (sets ++ drop (length sets) s) ≡ sets
+front_is sets s k e = front sets s (k - 0) (omega arith)
+
+pub loaded_answer : (n records room : ℕ) (text : List ℕ) (size : Size) (s rules : List LiteralSet) → Ok size ≡ loaded n records (read_cnf text) → rules ≡ take size.count (laid (sets (read_cnf text)) s) → sheet_least size.vars n rules room ≡ text_least n records room (read_cnf text)
 loaded_answer n records room text size s rules = go (read_cnf text) refl where
-  go : (r : Result Cnf TextFault) → read_cnf text ≡ r → Ok size ≡ loaded n records r → rules ≡ take (size.count - 0) (laid (sets r) s) → sheet_least size.vars n rules room ≡ text_least n records room r
+  go : (r : Result Cnf TextFault) → read_cnf text ≡ r → Ok size ≡ loaded n records r → rules ≡ take size.count (laid (sets r) s) → sheet_least size.vars n rules room ≡ text_least n records room r
   go (Err e) was taken lies = absurd (let y : ◌≡◌ {A = Bool} false true = cc in false≢true y)
   go (Ok c) was taken lies =
       let w = ((reads_just text).sound c was).well_formed in
       let l = loaded_is n records c size taken in
       let variables : size.vars ≡ c.vars = ap (λ y. y.vars) l.1 in
       let count : size.count ≡ length (map set_of c.rules) = ap (λ y. y.count) l.1 ∙ sym (length-map c.rules set_of) in
-      let held : rules ≡ map set_of c.rules = lies ∙ front_is (map set_of c.rules) s size.count count in
+      let held : rules ≡ map set_of c.rules = lies ∙ front (map set_of c.rules) s size.count count in
       let parts = and_parts (leb 1 n) (leb n 32 && leb n c.vars) l.0 in
       let few = and_parts (leb n 32) (leb n c.vars) parts.1 in
       let fits : suits c.vars n ≡ true = and_from _ _ (and_from _ _ parts.0 few.0) (and_from _ _ few.1 (le-leb c.vars 64 w.few_variables)) in

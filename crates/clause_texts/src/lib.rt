@@ -43,12 +43,7 @@ pub fn least_of_text(
     ensures buffer { out.new ≡ written (text_least n (length store.old) (length out.old) (read_cnf text.now)) out.old }
 {
     let size = load(text, n, store)?;
-    let count = size.count;
-    let loaded = LoadedRules {
-        vars: size.vars,
-        rules: &store[0..count],
-    };
-    least_of_rules(loaded, n, out)
+    least_of_rules(size.rules_in(store), n, out)
 }
 
 // The same with each variable of the text as a contact; answers how many there are.

@@ -120,9 +120,8 @@ impl<'a> Placing<'a> {
         ensures last { self.new.last ≡ unwrap_or found self.old.last }
         ensures held_kept { self.new.held ≡ self.old.held }
     {
-        let _ = self
-            .placed
-            .push(literal_of(self.placed.len(), found.is_none()));
+        let literal = literal_of(self.placed.len(), found.is_none());
+        let _ = self.placed.push(literal);
         self.last = found.unwrap_or(self.last);
     }
 }

@@ -42,11 +42,7 @@ fn load_rules<'a>(
     store: &'a mut [LiteralSet],
 ) -> Result<LoadedRules<'a>, SheetFault> {
     let size = load(text, n, store)?;
-    let count = size.count;
-    Ok(LoadedRules {
-        vars: size.vars,
-        rules: &store[0..count],
-    })
+    Ok(size.rules_in(store))
 }
 
 // Loads both texts, and writes the terms at the buffer's front.

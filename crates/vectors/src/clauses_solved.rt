@@ -32,11 +32,7 @@ fn contacts_of(vars: usize) -> usize {
 fn load_rules<'a>(text: &[u8], store: &'a mut [LiteralSet]) -> Result<LoadedRules<'a>, SheetFault> {
     let n = contacts_of(measure(text)?.vars);
     let size = load(text, n, store)?;
-    let count = size.count;
-    Ok(LoadedRules {
-        vars: size.vars,
-        rules: &store[0..count],
-    })
+    Ok(size.rules_in(store))
 }
 
 // Writes the literals of the least setting that the rules allow.
