@@ -8,5 +8,8 @@ pub mod request;
 mod start;
 mod turns;
 
-pub use both::{Compared, serve_both};
+pub use both::{Compared, serve_both, serve_both_lent};
+pub use lists::serve;
 pub use pair::Pair;
+pub use start::begin;
+pub use turns::take_turn;

@@ -47,33 +47,48 @@ fn serve_call<S: Solver>(sheet: &mut Sheet<S>, call: SheetCall) -> Response
     }
 }
 
-impl<M: Solver, B: Solver> Pair<M, B> {
-    // Puts one request to the pair.
-    fn serve_request(&mut self, request: Request) -> Response
-        ensures answer { says result ≡ request_reply (sheet_meaning M.Solver self.old.make) (sheet_meaning B.Solver self.old.brk) request }
-        ensures make_after { sheet_meaning M.Solver self.new.make ≡ make_after (sheet_meaning M.Solver self.old.make) request }
-        ensures break_after { sheet_meaning B.Solver self.new.brk ≡ break_after (sheet_meaning B.Solver self.old.brk) request }
-    {
-        match request {
-            Request::Sheet(side, call) => match side {
-                Side::Make => serve_call(&mut self.make, call),
-                Side::Break => serve_call(&mut self.brk, call),
-            },
-            Request::Terms(mut buffer) => match terms(
-                &mut self.make,
-                &mut self.brk,
-                buffer.as_mut_slice(),
-            ) {
-                Ok(count) => Ok(Answer::Terms(count, buffer)),
-                Err(fault) => Err(Refused {
-                    fault,
-                    returned: Returned::Terms(buffer),
-                }),
-            },
-        }
+// Puts one request to a pair.
+fn serve_request<M: Solver, B: Solver>(
+    make: &mut Sheet<M>,
+    brk: &mut Sheet<B>,
+    request: Request,
+) -> Response
+    ensures answer { says result ≡ request_reply (sheet_meaning M.Solver make.old) (sheet_meaning B.Solver brk.old) request }
+    ensures make_after { sheet_meaning M.Solver make.new ≡ make_after (sheet_meaning M.Solver make.old) request }
+    ensures break_after { sheet_meaning B.Solver brk.new ≡ break_after (sheet_meaning B.Solver brk.old) request }
+{
+    match request {
+        Request::Sheet(side, call) => match side {
+            Side::Make => serve_call(make, call),
+            Side::Break => serve_call(brk, call),
+        },
+        Request::Terms(mut buffer) => match terms(make, brk, buffer.as_mut_slice()) {
+            Ok(count) => Ok(Answer::Terms(count, buffer)),
+            Err(fault) => Err(Refused {
+                fault,
+                returned: Returned::Terms(buffer),
+            }),
+        },
     }
+}
 
-    // One request on a pair, by whoever's turn it is. For every start and every past by which the pair came from new sheets the guarantee goes on to hold.
+// One request on two lent sheets, by whoever's turn it is. For every start and every past by which the pair came from new sheets the guarantee goes on to hold.
+pub fn take_turn<M: Solver, B: Solver>(
+    make: &mut Sheet<M>,
+    brk: &mut Sheet<B>,
+    request: Request,
+) -> Response
+    ensures answer { says result ≡ request_reply (sheet_meaning M.Solver make.old) (sheet_meaning B.Solver brk.old) request }
+    ensures make_after { sheet_meaning M.Solver make.new ≡ make_after (sheet_meaning M.Solver make.old) request }
+    ensures break_after { sheet_meaning B.Solver brk.new ≡ break_after (sheet_meaning B.Solver brk.old) request }
+    ensures by_the_model { (p : PairModel) → Mirrors M.Solver B.Solver (record { make = make.old; brk = brk.old }) p → (says result ≡ answered p (asks request)) × Mirrors M.Solver B.Solver (record { make = make.new; brk = brk.new }) (next p (asks request)) }
+    ensures guarantee { (start : PairModel) (past : List Event) → Stands M.Solver B.Solver (record { make = make.old; brk = brk.old }) start past → Stands M.Solver B.Solver (record { make = make.new; brk = brk.new }) start (past ++ event request result ∷ []) }
+{
+    serve_request(make, brk, request)
+}
+
+impl<M: Solver, B: Solver> Pair<M, B> {
+    // The same on a pair.
     pub fn take_turn(&mut self, request: Request) -> Response
         ensures answer { says result ≡ request_reply (sheet_meaning M.Solver self.old.make) (sheet_meaning B.Solver self.old.brk) request }
         ensures make_after { sheet_meaning M.Solver self.new.make ≡ make_after (sheet_meaning M.Solver self.old.make) request }
@@ -81,6 +96,6 @@ impl<M: Solver, B: Solver> Pair<M, B> {
         ensures by_the_model { (p : PairModel) → Mirrors M.Solver B.Solver self.old p → (says result ≡ answered p (asks request)) × Mirrors M.Solver B.Solver self.new (next p (asks request)) }
         ensures guarantee { (start : PairModel) (past : List Event) → Stands M.Solver B.Solver self.old start past → Stands M.Solver B.Solver self.new start (past ++ event request result ∷ []) }
     {
-        self.serve_request(request)
+        take_turn(&mut self.make, &mut self.brk, request)
     }
 }

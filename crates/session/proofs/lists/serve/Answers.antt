@@ -1,6 +1,6 @@
 use Rattle.std.proofs.Common.{arith}
 use Rattle.session.proofs.Serving.{serving_more}
-use Rattle.session.proofs.pair.Pair.serve.Goals as goal
+use Rattle.session.proofs.lists.serve.Goals as goal
 
 pub loop-request-preserved : goal.loop-request-preserved
 loop-request-preserved g c = (

@@ -1,7 +1,7 @@
 use Rattle.model.specs.Guarantee.{calls_of, after}
 use Rattle.session.proofs.Equal.{same_said, both_served}
 use Rattle.session.proofs.Serving.{result_goes_on}
-use Rattle.session.proofs.both.serve_both.Goals as goal
+use Rattle.session.proofs.both.serve_both_lent.Goals as goal
 
 pub returns : goal.returns
 returns g c =

@@ -1,5 +1,5 @@
 use Rattle.session.proofs.Standing.{mirrored, goes_on}
-use Rattle.session.proofs.pair.Pair.take_turn.Goals as goal
+use Rattle.session.proofs.turns.take_turn.Goals as goal
 
 pub returns : goal.returns
 returns g c =
