@@ -3,4 +3,4 @@
 
 mod runs;
 
-pub use runs::{Sources, obey_lines, run};
+pub use runs::{Sources, obey_lines, obey_lines_lent, run};

@@ -1,2 +1,3 @@
+mod Assumed
 mod Released
 mod Found

@@ -1,4 +1,5 @@
 pub mod Outcomes
 pub mod Obeyed
+pub mod Keeping
 pub mod Fresh
 pub mod Writing

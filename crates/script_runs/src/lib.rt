@@ -4,6 +4,7 @@
 use dimacs::LoadedRules;
 use faults::Refusal;
 use settings::Term;
+use tickets::Tickets;
 
 mod held;
 mod keeping;
@@ -14,6 +15,7 @@ mod turns;
 mod write;
 
 pub use held::PairWithTickets;
+pub use lines::obey;
 pub use room::TicketRoom;
 pub use write::write_rules;
 
@@ -36,6 +38,12 @@ pub enum Outcome {
     // how many bytes were written
     Written(usize, Vec<u8>),
     Refused(Refusal),
+}
+
+// The tickets that ASSUME gave out and RELEASE has not accepted back, of both sheets.
+pub struct Kept {
+    make: Tickets,
+    brk: Tickets,
 }
 
 // What a sheet's solver was loaded with: the rules of a clause text, or the gates of a gate text.

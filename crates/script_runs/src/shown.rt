@@ -63,8 +63,7 @@ impl fmt::Display for Outcome {
                 let length = text.len();
                 writeln!(f, "write {length}")?;
                 for byte in text {
-                    let letter = char::from(*byte);
-                    write!(f, "{letter}")?;
+                    f.write_char(char::from(*byte))?;
                 }
                 Ok(())
             }

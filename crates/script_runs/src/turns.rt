@@ -10,24 +10,25 @@ ghost use Rattle.tickets.specs.Tickets.{listed, tickets_of};
 use super::Outcome;
 use faults::Refusal;
 use model::Side;
-use session::Pair;
 use session::request::{Answer, Refused, Request, Response, Returned, SheetCall};
-use sheets::Ticket;
+use session::take_turn;
+use sheets::{Sheet, Ticket};
 use solver::Solver;
 use tickets::Tickets;
 
 // Puts a request that brings no ticket and asks for none. The sheet that is asked has so many contacts.
 pub fn ask<M: Solver, B: Solver>(
-    pair: &mut Pair<M, B>,
+    make: &mut Sheet<M>,
+    brk: &mut Sheet<B>,
     contacts: usize,
     request: Request,
 ) -> Outcome
     requires ticketless { Ticketless request }
-    ensures answer { outcome_form result ≡ shown contacts (request_reply (sheet_meaning M.Solver pair.old.make) (sheet_meaning B.Solver pair.old.brk) request) }
-    ensures make_after { sheet_meaning M.Solver pair.new.make ≡ make_after (sheet_meaning M.Solver pair.old.make) request }
-    ensures break_after { sheet_meaning B.Solver pair.new.brk ≡ break_after (sheet_meaning B.Solver pair.old.brk) request }
+    ensures answer { outcome_form result ≡ shown contacts (request_reply (sheet_meaning M.Solver make.old) (sheet_meaning B.Solver brk.old) request) }
+    ensures make_after { sheet_meaning M.Solver make.new ≡ make_after (sheet_meaning M.Solver make.old) request }
+    ensures break_after { sheet_meaning B.Solver brk.new ≡ break_after (sheet_meaning B.Solver brk.old) request }
 {
-    match pair.take_turn(request) {
+    match take_turn(make, brk, request) {
         Ok(answer) => match answer {
             Answer::Done => Outcome::Done,
             Answer::Least(buffer) => Outcome::Least(contacts, buffer),
@@ -45,28 +46,34 @@ pub fn ask<M: Solver, B: Solver>(
 }
 
 // ASSUME, put to one sheet of the pair; in place, the proof of its caller did not close.
-fn put_assume<M: Solver, B: Solver>(pair: &mut Pair<M, B>, side: Side, literal: i8) -> Response
-    ensures answer { says result ≡ assume_reply (sided side (sheet_meaning M.Solver pair.old.make) (sheet_meaning B.Solver pair.old.brk)) literal }
-    ensures make_after { sheet_meaning M.Solver pair.new.make ≡ make_assumed side (sheet_meaning M.Solver pair.old.make) literal }
-    ensures break_after { sheet_meaning B.Solver pair.new.brk ≡ break_assumed side (sheet_meaning B.Solver pair.old.brk) literal }
+fn put_assume<M: Solver, B: Solver>(
+    make: &mut Sheet<M>,
+    brk: &mut Sheet<B>,
+    side: Side,
+    literal: i8,
+) -> Response
+    ensures answer { says result ≡ assume_reply (sided side (sheet_meaning M.Solver make.old) (sheet_meaning B.Solver brk.old)) literal }
+    ensures make_after { sheet_meaning M.Solver make.new ≡ make_assumed side (sheet_meaning M.Solver make.old) literal }
+    ensures break_after { sheet_meaning B.Solver brk.new ≡ break_assumed side (sheet_meaning B.Solver brk.old) literal }
 {
-    pair.take_turn(Request::Sheet(side, SheetCall::Assume(literal)))
+    take_turn(make, brk, Request::Sheet(side, SheetCall::Assume(literal)))
 }
 
 // ASSUME on one sheet, whose ticket is kept behind the others that the sheet gave out.
 pub fn assume<M: Solver, B: Solver>(
-    pair: &mut Pair<M, B>,
+    make: &mut Sheet<M>,
+    brk: &mut Sheet<B>,
     tickets: &mut Tickets,
     side: Side,
     literal: i8,
 ) -> Outcome
-    requires its_own { listed tickets.old ≡ tickets_of (sided side (sheet_meaning M.Solver pair.old.make) (sheet_meaning B.Solver pair.old.brk)) }
-    ensures answer { outcome_form result ≡ shown 0 (assume_reply (sided side (sheet_meaning M.Solver pair.old.make) (sheet_meaning B.Solver pair.old.brk)) literal) }
-    ensures make_after { sheet_meaning M.Solver pair.new.make ≡ make_assumed side (sheet_meaning M.Solver pair.old.make) literal }
-    ensures break_after { sheet_meaning B.Solver pair.new.brk ≡ break_assumed side (sheet_meaning B.Solver pair.old.brk) literal }
-    ensures its_own { listed tickets.new ≡ tickets_of (sided side (sheet_meaning M.Solver pair.new.make) (sheet_meaning B.Solver pair.new.brk)) }
+    requires its_own { listed tickets.old ≡ tickets_of (sided side (sheet_meaning M.Solver make.old) (sheet_meaning B.Solver brk.old)) }
+    ensures answer { outcome_form result ≡ shown 0 (assume_reply (sided side (sheet_meaning M.Solver make.old) (sheet_meaning B.Solver brk.old)) literal) }
+    ensures make_after { sheet_meaning M.Solver make.new ≡ make_assumed side (sheet_meaning M.Solver make.old) literal }
+    ensures break_after { sheet_meaning B.Solver brk.new ≡ break_assumed side (sheet_meaning B.Solver brk.old) literal }
+    ensures its_own { listed tickets.new ≡ tickets_of (sided side (sheet_meaning M.Solver make.new) (sheet_meaning B.Solver brk.new)) }
 {
-    match put_assume(pair, side, literal) {
+    match put_assume(make, brk, side, literal) {
         Ok(answer) => match answer {
             Answer::Issued(ticket) => {
                 let outcome = Outcome::Issued(ticket.label(), ticket.number());
@@ -83,29 +90,35 @@ pub fn assume<M: Solver, B: Solver>(
 }
 
 // RELEASE, put to one sheet of the pair; in place, the proof of its caller did not close.
-fn put_release<M: Solver, B: Solver>(pair: &mut Pair<M, B>, side: Side, ticket: Ticket) -> Response
-    ensures answer { says result ≡ release_reply (sided side (sheet_meaning M.Solver pair.old.make) (sheet_meaning B.Solver pair.old.brk)) ticket }
-    ensures make_after { sheet_meaning M.Solver pair.new.make ≡ make_released side (sheet_meaning M.Solver pair.old.make) ticket }
-    ensures break_after { sheet_meaning B.Solver pair.new.brk ≡ break_released side (sheet_meaning B.Solver pair.old.brk) ticket }
+fn put_release<M: Solver, B: Solver>(
+    make: &mut Sheet<M>,
+    brk: &mut Sheet<B>,
+    side: Side,
+    ticket: Ticket,
+) -> Response
+    ensures answer { says result ≡ release_reply (sided side (sheet_meaning M.Solver make.old) (sheet_meaning B.Solver brk.old)) ticket }
+    ensures make_after { sheet_meaning M.Solver make.new ≡ make_released side (sheet_meaning M.Solver make.old) ticket }
+    ensures break_after { sheet_meaning B.Solver brk.new ≡ break_released side (sheet_meaning B.Solver brk.old) ticket }
 {
-    pair.take_turn(Request::Sheet(side, SheetCall::Release(ticket)))
+    take_turn(make, brk, Request::Sheet(side, SheetCall::Release(ticket)))
 }
 
 // Brings the ticket at a place to one sheet of the pair. Where the sheet refuses it, it goes back to its place.
 fn bring<M: Solver, B: Solver>(
-    pair: &mut Pair<M, B>,
+    make: &mut Sheet<M>,
+    brk: &mut Sheet<B>,
     tickets: &mut Tickets,
     side: Side,
     place: usize,
 ) -> Outcome
     requires there { place < length (listed tickets.old) }
-    ensures answer { outcome_form result ≡ shown 0 (release_reply (sided side (sheet_meaning M.Solver pair.old.make) (sheet_meaning B.Solver pair.old.brk)) (ticket_at (listed tickets.old) place)) }
-    ensures make_after { sheet_meaning M.Solver pair.new.make ≡ make_released side (sheet_meaning M.Solver pair.old.make) (ticket_at (listed tickets.old) place) }
-    ensures break_after { sheet_meaning B.Solver pair.new.brk ≡ break_released side (sheet_meaning B.Solver pair.old.brk) (ticket_at (listed tickets.old) place) }
-    ensures tickets { listed tickets.new ≡ kept_after (held_at (sided side (sheet_meaning M.Solver pair.old.make) (sheet_meaning B.Solver pair.old.brk)) (ticket_at (listed tickets.old) place)) (listed tickets.old) place }
+    ensures answer { outcome_form result ≡ shown 0 (release_reply (sided side (sheet_meaning M.Solver make.old) (sheet_meaning B.Solver brk.old)) (ticket_at (listed tickets.old) place)) }
+    ensures make_after { sheet_meaning M.Solver make.new ≡ make_released side (sheet_meaning M.Solver make.old) (ticket_at (listed tickets.old) place) }
+    ensures break_after { sheet_meaning B.Solver brk.new ≡ break_released side (sheet_meaning B.Solver brk.old) (ticket_at (listed tickets.old) place) }
+    ensures tickets { listed tickets.new ≡ kept_after (held_at (sided side (sheet_meaning M.Solver make.old) (sheet_meaning B.Solver brk.old)) (ticket_at (listed tickets.old) place)) (listed tickets.old) place }
 {
     let ticket = tickets.take(place);
-    match put_release(pair, side, ticket) {
+    match put_release(make, brk, side, ticket) {
         Ok(answer) => match answer {
             Answer::Done => Outcome::Done,
             _ => unreachable(),
@@ -122,22 +135,23 @@ fn bring<M: Solver, B: Solver>(
 
 // Releases the ticket with a number of those that the owner gave out, if there is one, on one sheet of the pair.
 pub fn release_from<M: Solver, B: Solver>(
-    pair: &mut Pair<M, B>,
+    make: &mut Sheet<M>,
+    brk: &mut Sheet<B>,
     tickets: &mut Tickets,
     owner: Side,
     side: Side,
     number: u16,
 ) -> Outcome
-    requires labelled { Labelled (sheet_meaning M.Solver pair.old.make) (sheet_meaning B.Solver pair.old.brk) }
-    requires its_own { listed tickets.old ≡ tickets_of (sided owner (sheet_meaning M.Solver pair.old.make) (sheet_meaning B.Solver pair.old.brk)) }
-    ensures answer { outcome_form result ≡ release_outcome side (sheet_meaning M.Solver pair.old.make) (sheet_meaning B.Solver pair.old.brk) (ticket_of owner number) }
-    ensures make_after { sheet_meaning M.Solver pair.new.make ≡ make_released side (sheet_meaning M.Solver pair.old.make) (ticket_of owner number) }
-    ensures break_after { sheet_meaning B.Solver pair.new.brk ≡ break_released side (sheet_meaning B.Solver pair.old.brk) (ticket_of owner number) }
-    ensures its_own { listed tickets.new ≡ tickets_of (sided owner (sheet_meaning M.Solver pair.new.make) (sheet_meaning B.Solver pair.new.brk)) }
-    ensures others_own { tickets_of (sided owner (sheet_meaning B.Solver pair.new.brk) (sheet_meaning M.Solver pair.new.make)) ≡ tickets_of (sided owner (sheet_meaning B.Solver pair.old.brk) (sheet_meaning M.Solver pair.old.make)) }
+    requires labelled { Labelled (sheet_meaning M.Solver make.old) (sheet_meaning B.Solver brk.old) }
+    requires its_own { listed tickets.old ≡ tickets_of (sided owner (sheet_meaning M.Solver make.old) (sheet_meaning B.Solver brk.old)) }
+    ensures answer { outcome_form result ≡ release_outcome side (sheet_meaning M.Solver make.old) (sheet_meaning B.Solver brk.old) (ticket_of owner number) }
+    ensures make_after { sheet_meaning M.Solver make.new ≡ make_released side (sheet_meaning M.Solver make.old) (ticket_of owner number) }
+    ensures break_after { sheet_meaning B.Solver brk.new ≡ break_released side (sheet_meaning B.Solver brk.old) (ticket_of owner number) }
+    ensures its_own { listed tickets.new ≡ tickets_of (sided owner (sheet_meaning M.Solver make.new) (sheet_meaning B.Solver brk.new)) }
+    ensures others_own { tickets_of (sided owner (sheet_meaning B.Solver brk.new) (sheet_meaning M.Solver make.new)) ≡ tickets_of (sided owner (sheet_meaning B.Solver brk.old) (sheet_meaning M.Solver make.old)) }
 {
     match tickets.find(number) {
         None => Outcome::NoTicket,
-        Some(place) => bring(pair, tickets, side, place),
+        Some(place) => bring(make, brk, tickets, side, place),
     }
 }

@@ -23,8 +23,8 @@ put_back-requires g c =
 
 pub returns-in-Done : goal.returns-in-Done
 returns-in-Done g c =
-    let m = sheet_meaning g.M.Solver c.args.pair.now.make in
-    let b = sheet_meaning g.B.Solver c.args.pair.now.brk in
+    let m = sheet_meaning g.M.Solver c.args.make.now in
+    let b = sheet_meaning g.B.Solver c.args.brk.now in
     let side = c.args.side in
     let s = sided side m b in
     let ts = listed c.args.tickets.now in
@@ -42,8 +42,8 @@ returns-in-Done g c =
 
 pub returns-in-Ticket : goal.returns-in-Ticket
 returns-in-Ticket g c =
-    let m = sheet_meaning g.M.Solver c.args.pair.now.make in
-    let b = sheet_meaning g.B.Solver c.args.pair.now.brk in
+    let m = sheet_meaning g.M.Solver c.args.make.now in
+    let b = sheet_meaning g.B.Solver c.args.brk.now in
     let side = c.args.side in
     let s = sided side m b in
     let ts = listed c.args.tickets.now in
