@@ -1,6 +1,7 @@
 // What is known of the variables of a network: of each nothing yet, or its value.
-ghost use Rattle.std.specs.Prelude.{◌≡◌, ℕ, ◌+◌, ◌/◌, ◌<◌, Bool, false, None, length, slice_index_or};
+ghost use Rattle.std.specs.Prelude.{◌≡◌, ℕ, ◌+◌, ◌/◌, ◌<◌, ◌≤◌, Bool, false, None, Some, length, slice_index_or};
 ghost use Rattle.std.specs.Iterator.{IsFinite};
+ghost use Rattle.networks.specs.Networks.{no_gate};
 ghost use Rattle.networks.specs.Circuits.{Obeys};
 ghost use Rattle.implications.specs.Ternaries.{opposite, known, written, left_by, demanded, followed, step_at, assigned, taken_from, narrowed, Agree, Sound, Holds};
 
@@ -164,14 +165,23 @@ impl Implied {
         self.follow(follows, out, left, right)
     }
 
-    // The same at the gate of an index, if there is one.
-    fn step_at(&mut self, circuit: Circuit<'_>, index: usize) -> Result<bool, Contradiction>
-        ensures right { (V : ℕ → Bool) → Obeys (circuit.entry.inputs + 1) circuit.entry.gates.now V → Sound self.old.values V → Holds V result self.new.values }
+    // The same at the gate of an index; where there is none, nothing.
+    fn step_if_any(&mut self, circuit: Circuit<'_>, index: usize) -> Result<bool, Contradiction>
+        ensures stepped { index < length circuit.entry.gates.now → left_by result self.new.values ≡ step_at self.old.values (circuit.entry.inputs + 1 + index) (slice_index_or circuit.entry.gates.now index no_gate) }
+        ensures beyond { length circuit.entry.gates.now ≤ index → left_by result self.new.values ≡ Some self.old.values }
     {
         match circuit.gates.get(index) {
             Some(gate) => self.step(gate_variable(circuit, index), *gate),
             None => Ok(false),
         }
+    }
+
+    // The same, and what it finds is right.
+    fn step_at(&mut self, circuit: Circuit<'_>, index: usize) -> Result<bool, Contradiction>
+        ensures stepped { index < length circuit.entry.gates.now → left_by result self.new.values ≡ step_at self.old.values (circuit.entry.inputs + 1 + index) (slice_index_or circuit.entry.gates.now index no_gate) }
+        ensures right { (V : ℕ → Bool) → Obeys (circuit.entry.inputs + 1) circuit.entry.gates.now V → Sound self.old.values V → Holds V result self.new.values }
+    {
+        self.step_if_any(circuit, index)
     }
 
     // One pass over the gates in some order; answers whether more is known. The order is one of indices, since an iterator of gates would have to promise of each whose gate it is.
