@@ -1,7 +1,7 @@
 // The choice of an input to try next. Of the way to it nothing is promised; of the choice only that it is undecided.
 #![tactic(auto)]
 
-ghost use Rattle.std.specs.Prelude.{false};
+ghost use Rattle.std.specs.Prelude.{◌≤◌, false};
 ghost use Rattle.rules.specs.Rules.{Choice};
 
 use aiger::Gate;
@@ -75,46 +75,64 @@ impl Demands {
     }
 
     // The variable to which such sides lead back from the gate of an index: an input, if all is well.
-    fn trace(&self, known: &Implied, circuit: Circuit<'_>, index: usize) -> usize {
-        let inputs = circuit.inputs as usize;
+    fn trace(&self, known: &Implied, gates: &[Gate], inputs: usize, index: usize) -> usize
+        requires few { inputs ≤ 255 }
+    {
         let mut variable = (inputs + 1).saturating_add(index);
-        for _ in 0..circuit.gates.len() {
-            if variable <= inputs || variable - inputs > circuit.gates.len() {
+        for _ in 0..gates.len() {
+            if variable <= inputs || variable - inputs > gates.len() {
                 break;
             }
-            variable = self.side(known, circuit.gates[variable - inputs - 1]);
+            variable = self.side(known, gates[variable - inputs - 1]);
         }
         variable
     }
 }
 
-// Follows what is asked from the last gate that has no cause yet to an input, or where that leads; none where every gate has its cause.
-fn hint(known: &Implied, circuit: Circuit<'_>) -> Option<usize> {
+// Follows what is asked from the last gate that has no cause yet to an input, or where that leads; none where every gate has its cause, and then nothing is asked.
+fn hint(known: &Implied, gates: &[Gate], inputs: usize) -> Option<usize>
+    requires few { inputs ≤ 255 }
+{
+    let mut backwards = gates.iter().enumerate().rev();
+    let (last, gate) = backwards.find(|(index, gate)| {
+        is_unjustified(known, (inputs + 1).saturating_add(*index), **gate)
+    })?;
     let mut demands = Demands::none();
-    let mut last = None;
-    for (index, gate) in circuit.gates.iter().enumerate().rev() {
-        let variable = (circuit.inputs as usize + 1).saturating_add(index);
+    demands.hand_on(known, *gate, WHOLE);
+    for (index, gate) in backwards {
+        let variable = (inputs + 1).saturating_add(index);
         let mut asked = demands.of(variable);
         if is_unjustified(known, variable, *gate) {
             asked = asked.saturating_add(WHOLE);
-            last = last.or(Some(index));
         }
         if asked > 0 {
             demands.hand_on(known, *gate, asked);
         }
     }
-    Some(demands.trace(known, circuit, last?))
+    Some(demands.trace(known, gates, inputs, last))
 }
 
-// An undecided input that bears on a gate without a cause, if there is one.
-pub fn choose(known: &Implied, circuit: Circuit<'_>, assignment: Assignment) -> Option<u8>
-    ensures choice { Choice circuit.entry.inputs assignment false result }
+// An undecided input that bears on a gate without a cause, if there is one, among any gates of which that much is known.
+pub fn choose_among(
+    known: &Implied,
+    gates: &[Gate],
+    inputs: u8,
+    assignment: Assignment,
+) -> Option<u8>
+    ensures choice { Choice inputs assignment false result }
 {
     // Input k is variable k + 1.
-    let index = u8::try_from(hint(known, circuit)?.checked_sub(1)?).ok()?;
-    if index < circuit.inputs && !assignment.has_decided(index) {
+    let index = u8::try_from(hint(known, gates, inputs as usize)?.checked_sub(1)?).ok()?;
+    if index < inputs && !assignment.has_decided(index) {
         Some(index)
     } else {
         None
     }
+}
+
+// The same in a circuit.
+pub fn choose(known: &Implied, circuit: Circuit<'_>, assignment: Assignment) -> Option<u8>
+    ensures choice { Choice circuit.entry.inputs assignment false result }
+{
+    choose_among(known, circuit.gates, circuit.inputs, assignment)
 }
