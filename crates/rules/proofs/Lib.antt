@@ -2,3 +2,4 @@ pub mod Scans
 pub mod Masks
 pub mod Forces
 pub mod Sums
+pub mod Firsts

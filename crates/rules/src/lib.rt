@@ -2,12 +2,12 @@
 #![tactic(auto)]
 
 ghost use Rattle.std.specs.Prelude.{◌≡◌, Bool, true, false, not, ◌||◌, map};
+ghost use Rattle.std.specs.List.{find, range_with_len};
 ghost use Rattle.search.specs.Assignments.{decided};
 ghost use Rattle.rules.specs.Rules.{as_rule, masked, is_met, undecided_in, several, is_quiet, wanted_at, scanned, scanned_both, found_by, any_unmet, has_unmet, Choice};
 
 use literals::LiteralSet;
 use search::{Assignment, Found, mask_below};
-use std::cmp::Ordering;
 
 // What a rule says that forces a literal or has failed. A variable goes by its index, from 0.
 #[derive(Clone, Copy)]
@@ -170,13 +170,19 @@ impl Shortest {
         }
     }
 
-    // Counts in one rule more, if it is as short.
+    // Counts in one rule more, if it is as short. Most rules are longer, so that is asked first.
     fn note(&mut self, mask: u64) {
-        match mask.count_ones().cmp(&self.length) {
-            Ordering::Less => *self = Shortest::of(mask),
-            Ordering::Equal => self.count(mask),
-            Ordering::Greater => (),
+        let length = mask.count_ones();
+        if length > self.length {
+            return;
         }
+        if length < self.length {
+            *self = Shortest {
+                length,
+                counts: [0; 64],
+            };
+        }
+        self.count(mask);
     }
 
     // The variable that occurs most; of several such, the first, where `max_by_key` would answer the last.
@@ -200,11 +206,18 @@ fn is_undecided(assignment: Assignment, variable: u8) -> bool
     !assignment.has_decided(variable)
 }
 
+// The first undecided variable, as a search over the numbers finds it.
+fn find_undecided(variables: u8, assignment: Assignment) -> Option<u8>
+    ensures found { result ≡ find (λ k. not (decided assignment k)) (range_with_len 0 variables) }
+{
+    (0..variables).find(|variable| is_undecided(assignment, *variable))
+}
+
 // The first undecided variable.
 pub fn first_undecided(variables: u8, assignment: Assignment) -> Option<u8>
     ensures choice { Choice variables assignment true result }
 {
-    (0..variables).find(|variable| is_undecided(assignment, *variable))
+    find_undecided(variables, assignment)
 }
 
 // The shortest rules that are not met, if there is one.
@@ -249,7 +262,7 @@ impl Tally {
     pub fn choose(&self, variables: u8, assignment: Assignment) -> Option<u8>
         ensures choice { Choice variables assignment (has_unmet self.now) result }
     {
-        let variable = self.shortest?.most_frequent();
+        let variable = self.shortest.as_ref()?.most_frequent();
         if variable < variables && is_undecided(assignment, variable) {
             Some(variable)
         } else {
