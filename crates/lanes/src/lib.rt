@@ -2,6 +2,7 @@
 #![tactic(auto)]
 
 ghost use Rattle.std.specs.Prelude.{◌≡◌, ℕ, ◌+◌, ◌<◌, ◌≤◌, Bool, true, false, map, length};
+ghost use Rattle.std.specs.List.{find, range_with_len};
 ghost use Rattle.tables.specs.Tables.{items};
 ghost use Rattle.literals.specs.Bits.{bit};
 ghost use Rattle.search.specs.Assignments.{undecided, filled};
@@ -147,6 +148,13 @@ fn has_lane(word: u64, lane: u8) -> bool
     has_bit(word, lane as usize)
 }
 
+// The lowest lane that is set, as a search over the lanes finds it.
+fn lowest_lane(word: u64) -> Option<u8>
+    ensures found { result ≡ find (λ k. bit word k) (range_with_len 0 64) }
+{
+    (0..64u8).find(|lane| has_lane(word, *lane))
+}
+
 // The first lane that is set.
 fn first_lane(word: u64) -> Option<u8>
     ensures first { FirstLane word result }
@@ -154,7 +162,7 @@ fn first_lane(word: u64) -> Option<u8>
     if word == 0 {
         return None;
     }
-    (0..64u8).find(|lane| has_lane(word, *lane))
+    lowest_lane(word)
 }
 
 // A mask with a bit more, if that is set.

@@ -1,7 +1,8 @@
 // Literals, and sets of them as two masks.
 #![tactic(auto)]
 
-ghost use Rattle.std.specs.Prelude.{◌≡◌, ◌%◌, true, Some, ◌==◌};
+ghost use Rattle.std.specs.Prelude.{◌≡◌, ◌%◌, true, not, Some, ◌==◌};
+ghost use Rattle.std.specs.List.{position};
 ghost use Rattle.literals.specs.Literals.{names, first_unnamed, no_literals, inserted, with_literal, set_of, has};
 ghost use Rattle.literals.specs.Bits.{bit};
 ghost use Rattle.literals.specs.Shown.{spaced_text};
@@ -29,13 +30,21 @@ pub fn names_one_of(n: usize, literal: i8) -> bool
     }
 }
 
-// The place of the first literal that names none of n variables.
-pub fn find_unnamed(n: usize, literals: &[i8]) -> Option<usize>
-    ensures first { result ≡ first_unnamed n literals.now }
+// The first place at which a literal names none of n variables.
+fn unnamed_place(n: usize, literals: &[i8]) -> Option<usize>
+    ensures place { result ≡ position (λ l. not (names n l)) literals.now }
 {
     literals
         .iter()
         .position(|literal| !names_one_of(n, *literal))
+}
+
+// The place of the first literal that names none of n variables.
+#[tactic(auto, using(crate::proofs::Places::found_unnamed))]
+pub fn find_unnamed(n: usize, literals: &[i8]) -> Option<usize>
+    ensures first { result ≡ first_unnamed n literals.now }
+{
+    unnamed_place(n, literals)
 }
 
 fn is_odd(number: u64) -> bool

@@ -1,7 +1,10 @@
 // Settings of contacts and the tests on them, and terms as they are written.
 #![tactic(auto)]
 
-ghost use Rattle.std.specs.Prelude.{◌≡◌, ◌<◌, ◌≤◌, min, false, slice_index_or};
+ghost use Rattle.std.specs.Prelude.{◌≡◌, ◌<◌, ◌≤◌, min, false, not, slice_index_or};
+ghost use Rattle.std.specs.List.{list_any, list_all, range_with_len};
+ghost use Rattle.literals.specs.Bits.{bit};
+ghost use Rattle.literals.specs.Literals.{has};
 ghost use Rattle.tables.specs.Tables.{items};
 ghost use Rattle.settings.specs.Settings.{agrees, met, fits, meets, covers, literal, literals};
 ghost use Rattle.settings.specs.Readings.{reading, setting_of};
@@ -58,32 +61,62 @@ impl Setting {
         }
     }
 
+    // Whether it agrees with one of the literals.
+    fn agrees_with_any(self, n: usize, literals: &[i8]) -> bool
+        ensures any { result ≡ list_any (agrees (reading n self)) literals.now }
+    {
+        literals.iter().any(|literal| self.agrees(n, *literal))
+    }
+
     // Whether it meets a rule: it agrees with at least one of the literals.
+    #[tactic(auto, using(crate::proofs::Scans::met_by_any))]
     pub fn meets(self, n: usize, rule: &[i8]) -> bool
         ensures met { result ≡ met rule.now (reading n self) }
     {
-        rule.iter().any(|literal| self.agrees(n, *literal))
+        self.agrees_with_any(n, rule)
+    }
+
+    // The same with all of the literals.
+    fn agrees_with_all(self, n: usize, literals: &[i8]) -> bool
+        ensures all { result ≡ list_all (agrees (reading n self)) literals.now }
+    {
+        literals.iter().all(|literal| self.agrees(n, *literal))
     }
 
     // Whether it agrees with all the literals.
+    #[tactic(auto, using(crate::proofs::Scans::fits_by_all))]
     pub fn fits(self, n: usize, literals: &[i8]) -> bool
         ensures agreement { result ≡ fits literals.now (reading n self) }
     {
-        literals.iter().all(|literal| self.agrees(n, *literal))
+        self.agrees_with_all(n, literals)
+    }
+
+    // Whether one of the first contacts is as a set of literals wants it.
+    fn any_held(self, n: usize, set: LiteralSet) -> bool
+        ensures any { result ≡ list_any (λ k. has set k (bit self.closed k)) (range_with_len 0 n) }
+    {
+        (0..n).any(|index| set.has(index, has_bit(self.closed as u64, index)))
+    }
+
+    // Whether none of the first contacts is as the opposite literals want it.
+    fn none_opposed(self, n: usize, set: LiteralSet) -> bool
+        ensures all { result ≡ list_all (λ k. not (has set k (not (bit self.closed k)))) (range_with_len 0 n) }
+    {
+        (0..n).all(|index| !set.has(index, !has_bit(self.closed as u64, index)))
     }
 
     // Whether it meets a rule that is the set of its literals.
     pub fn meets_set(self, n: usize, rule: LiteralSet) -> bool
         ensures met { result ≡ meets rule (reading n self) }
     {
-        (0..n).any(|index| rule.has(index, has_bit(self.closed as u64, index)))
+        self.any_held(n, rule)
     }
 
     // Whether a bar that is the set of its literals covers it: none of them is opposed by a contact.
     pub fn is_covered(self, n: usize, bar: LiteralSet) -> bool
         ensures covered { result ≡ covers bar (reading n self) }
     {
-        (0..n).all(|index| !bar.has(index, !has_bit(self.closed as u64, index)))
+        self.none_opposed(n, bar)
     }
 
     // The literals of the first contacts, in contact order.

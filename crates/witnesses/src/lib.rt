@@ -2,7 +2,11 @@
 #![tactic(auto)]
 
 ghost use Rattle.std.specs.Prelude.{◌≡◌, []};
+ghost use Rattle.std.specs.List.{find};
+ghost use Rattle.std.specs.Option.{option_map};
 ghost use Rattle.tables.specs.Tables.{items};
+ghost use Rattle.settings.specs.Settings.{fits};
+ghost use Rattle.settings.specs.Readings.{reading};
 ghost use Rattle.solver.specs.Meaning.{Asked, add_fault, bar_fault, outcome, with_rule, with_bar, without_bars};
 ghost use Rattle.solver.specs.Over.{meaning_of};
 ghost use Rattle.witnesses.specs.Witnesses.{remembered, noted, emptied};
@@ -18,13 +22,18 @@ mod cache;
 
 pub use cache::WitnessCache;
 
+// The first setting of a list that agrees with all the literals, as a search finds it.
+fn find_fitting<'a>(seen: &'a [Setting], n: usize, literals: &[i8]) -> Option<&'a Setting>
+    ensures found { option_map (λ setting. setting.now) result ≡ find (λ setting. fits literals.now (reading n setting)) seen.now }
+{
+    seen.iter().find(|setting| setting.fits(n, literals))
+}
+
 // The oldest setting held that agrees with all the literals.
 fn recall(seen: &[Setting], n: usize, literals: &[i8]) -> Option<Setting>
     ensures oldest { result ≡ recalled n literals.now seen.now }
 {
-    seen.iter()
-        .find(|setting| setting.fits(n, literals))
-        .copied()
+    find_fitting(seen, n, literals).copied()
 }
 
 // Places a setting last; where 16 are held the oldest leaves.
