@@ -7,7 +7,7 @@ use Rattle.dimacs_write.specs.declared.Output.{Output}
 use Rattle.dimacs_write.specs.Puts.{over, Put, literal_of, variable_text}
 use Rattle.dimacs_write.specs.Texts.{literal_text, rule_text}
 
-over_append : (s : List ℕ) (i : ℕ) (a b : List ℕ) → over s i (a ++ b) ≡ over (over s i a) (i + length a) b
+pub over_append : (s : List ℕ) (i : ℕ) (a b : List ℕ) → over s i (a ++ b) ≡ over (over s i a) (i + length a) b
 over_append s i [] b = ap (λ n. over s n b) (sym (add-zero i))
 over_append s i (x ∷ a) b = over_append (set s i x) (i + 1) a b ∙ ap (λ n. over (over (set s i x) (i + 1) a) n b) (omega arith)
 
@@ -50,3 +50,6 @@ few_digits n h = length-decimal-le 4 n (omega arith) (omega arith) (omega arith)
 
 -- what putting one thing behind another goes by
 pub ruleset puts = (put_append, put_nothing, two_digits, few_digits)
+
+-- what two things put one behind the other come to, byte by byte
+pub ruleset appends = (over_append, length-append)

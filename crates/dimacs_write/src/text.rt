@@ -14,6 +14,7 @@ use literals::{LiteralSet, has_bit};
 #[tactic(auto, using(crate::proofs::Buffers::puts))]
 impl<'a> Output<'a> {
     // Puts the literals of variable k + 1 that the set has.
+    #[tactic(auto, using(crate::proofs::Buffers::appends))]
     fn variable(&mut self, set: &LiteralSet, k: usize)
         requires low { self.old.length < 2 ^ 58 }
         requires few { k < 64 }
