@@ -1,7 +1,10 @@
 // What the programs share that are there to be timed.
 #![tactic(auto)]
 
+ghost use Rattle.std.specs.Prelude.{◌≡◌, IfOk};
+ghost use Rattle.std.specs.Option.{option_map, unwrap_or};
 ghost use Rattle.timed.specs.Calls.{CalledTimes};
+ghost use Rattle.timed.specs.Words.{spelled};
 
 use anyhow::{Result, anyhow};
 use std::env;
@@ -15,14 +18,14 @@ pub struct Task {
 }
 
 impl Task {
-    // The task that FILE N [REPEAT] names.
-    pub fn from_args(rt: &HostRuntime, program: &str) -> Result<Self> {
-        let mut args = env::args(rt)?.skip(1);
-        let (Some(path), Some(contacts)) = (args.next(), args.next()) else {
-            return Err(anyhow!("usage: {program} FILE N [REPEAT]"));
-        };
+    // The task of a file and of the words for its numbers; with no word for how often, it is to be answered once.
+    fn read(path: String, contacts: &str, times: Option<&str>) -> Result<Self>
+        ensures path { IfOk result (λ task. task.path ≡ path) }
+        ensures contacts { IfOk result (λ task. task.contacts ≡ spelled contacts.now) }
+        ensures times { IfOk result (λ task. task.times ≡ unwrap_or (option_map (λ word. spelled word.now) times.entry) 1) }
+    {
         let contacts = contacts.parse::<usize>()?;
-        let times = match args.next() {
+        let times = match times {
             Some(count) => count.parse::<u32>()?,
             None => 1,
         };
@@ -31,6 +34,15 @@ impl Task {
             contacts,
             times,
         })
+    }
+
+    // The task that FILE N [REPEAT] names.
+    pub fn from_args(rt: &HostRuntime, program: &str) -> Result<Self> {
+        let mut args = env::args(rt)?.skip(1);
+        let (Some(path), Some(contacts)) = (args.next(), args.next()) else {
+            return Err(anyhow!("usage: {program} FILE N [REPEAT]"));
+        };
+        Task::read(path, contacts.as_str(), args.next().as_deref())
     }
 }
 
